@@ -1,0 +1,91 @@
+-- The number of members and the lowest member, for any number of words.
+use mathlib.Core.Path.{_≡_, refl, sym, ap, _∙_}
+use mathlib.Core.List.{List}
+use mathlib.Core.Bool.{Bool, true, false, cond, false≢true}
+use mathlib.Core.Option.{Option, none, some}
+use mathlib.Core.Logic.{_↔_, ⊎-elim}
+use Prim.Native.Nat.{ℕ, zero, suc, _+_, _*_, _≤_, _<_}
+use native.Mathlib.Nat.{not-suc-le-zero, le-of-suc-le-suc, eq-or-lt-of-le}
+use native.Mathlib.Omega.{arith}
+use lib.ListN.{length}
+use Rattle.places.specs.Sets.{has, tally, size, first, or-else, lowest}
+use Rattle.places.proofs.Sets.{has-below}
+
+-- ---- of a predicate
+
+-- none below n is picked
+abbrev pub None : (ℕ → Bool) → ℕ → Type 0
+None f n = (k : ℕ) → k < n → f k ≡ false
+
+pub tally-none : (f : ℕ → Bool) (n : ℕ) → (tally f n ≡ 0) ↔ None f n
+unfolding tally
+tally-none f n = (up n, down n)
+  where
+    unpicked : (b : Bool) → _≡_ {A = ℕ} (cond b 1 0) 0 → b ≡ false
+    unpicked true e = absurd (let z : ⊥ = omega arith in z)
+    unpicked false e = refl
+
+    up : (n : ℕ) → tally f n ≡ 0 → None f n
+    up zero e k h = absurd (not-suc-le-zero h)
+    up (suc n) e k h =
+        ⊎-elim (λ (q : k ≡ n). ap f q ∙ unpicked (f n) (omega arith)) (λ (l : k < n). up n (omega arith) k l) (eq-or-lt-of-le (le-of-suc-le-suc h))
+
+    down : (n : ℕ) → None f n → tally f n ≡ 0
+    down zero h = refl
+    down (suc n) h = rw (h n (omega arith)) (omega (arith, down n (λ k l. h k (omega arith))))
+
+-- what `first` answers: the least number below n that f picks, or none where it picks none
+pub data First (f : ℕ → Bool) (n : ℕ) : Option ℕ → Type 0 where
+  found : {p : ℕ} → p < n → f p ≡ true → None f p → First f n (some p)
+  missing : None f n → First f n none
+
+pub first-is : (f : ℕ → Bool) (n : ℕ) → First f n (first f n)
+unfolding first
+first-is f zero = missing (λ k h. absurd (not-suc-le-zero h))
+first-is f (suc n) = more (first-is f n) (f n) refl
+  where
+    last : None f n → (b : Bool) → f n ≡ b → First f (suc n) (cond b (some n) none)
+    last h true e = found {p = n} (omega arith) e h
+    last h false e =
+        missing (λ k l. ⊎-elim (λ (q : k ≡ n). ap f q ∙ e) (λ (j : k < n). h k j) (eq-or-lt-of-le (le-of-suc-le-suc l)))
+
+    more : {o : Option ℕ} → First f n o → (b : Bool) → f n ≡ b → First f (suc n) (or-else o (cond b (some n) none))
+    more (found {p = r} l e h) b q = found {p = r} (omega arith) e h
+    more (missing h) b q = last h b q
+
+-- ---- of a set
+
+none-some : {p : ℕ} → _≡_ {A = Option ℕ} none (some p) → ⊥
+none-some e = let z : _≡_ {A = ℕ} 0 1 = cc in omega arith
+
+-- no place is a member where none below the set's end is
+pub no-members : (s : List ℕ) → None (has s) (64 * length s) → (p : ℕ) → has s p ≡ false
+no-members s h p = go (has s p) refl
+  where
+    go : (b : Bool) → has s p ≡ b → has s p ≡ false
+    go true e = h p (has-below s p e)
+    go false e = e
+
+pub size-zero : (s : List ℕ) → (size s ≡ 0) ↔ ((p : ℕ) → has s p ≡ false)
+unfolding size
+size-zero s = (λ e. no-members s (tally-none (has s) (64 * length s) .0 e), λ h. tally-none (has s) (64 * length s) .1 (λ k l. h k))
+
+-- the lowest member is a member, and no lower place is
+pub lowest-some : (s : List ℕ) (p : ℕ) → lowest s ≡ some p → (has s p ≡ true) × ((q : ℕ) → q < p → has s q ≡ false)
+unfolding lowest
+lowest-some s p e = go (first-is (has s) (64 * length s)) e
+  where
+    go : {o : Option ℕ} → First (has s) (64 * length s) o → o ≡ some p → (has s p ≡ true) × ((q : ℕ) → q < p → has s q ≡ false)
+    go (found {p = r} l m h) q =
+        let e : r ≡ p = cc in
+        (rw e at m, rw e at h)
+    go (missing h) q = absurd (none-some q)
+
+-- where there is no lowest member, there is no member
+pub lowest-none : (s : List ℕ) → lowest s ≡ none → (p : ℕ) → has s p ≡ false
+unfolding lowest
+lowest-none s e = go (first-is (has s) (64 * length s)) e
+  where
+    go : {o : Option ℕ} → First (has s) (64 * length s) o → o ≡ none → (p : ℕ) → has s p ≡ false
+    go (found l m h) q = absurd (none-some (sym q))
+    go (missing h) q = no-members s h

@@ -1,0 +1,266 @@
+-- The laws of sets of places, for any number of words. All go by one meaning of `⊆`: bit by bit, the first set's is at most the second's.
+use mathlib.Core.Path.{_≡_, refl, sym, ap, ap₂, _∙_, subst}
+use mathlib.Core.List.{List, [], _∷_}
+use mathlib.Core.Bool.{Bool, true, false, _&&_, _||_, not, cond, false≢true}
+use mathlib.Core.Logic.{_↔_}
+use native.Mathlib.Decide.{decLt}
+use Prim.Native.Nat.{ℕ, zero, suc, _+_, _-_, _*_, _/_, _%_, _^_, _≤_, _<_, max, zero-le}
+use native.Mathlib.Nat.{le-refl, le-trans, le-antisymm, le-max-left, le-max-right, max-le, lt-of-lt-of-le, zero-max, max-zero, suc-max-suc, zero-lt-suc, not-suc-le-zero, le-of-suc-le-suc, zero-div, lt-of-not-le}
+use native.Mathlib.Omega.{arith}
+use lib.Pow.{pow-mono, pow-pos}
+use lib.Bits.{bitOr, or-zero-r, or-lt, bitAnd, bitXor, and-lt, xor-lt}
+use lib.Dec.{eqb, ltb}
+use lib.ListN.{length, getD, replicate, length-replicate, List·getD-eq-default}
+use lib.Seq.{ext-getD}
+use borrow.Author.Tests.{eqb-true, eq-eqb, lt-ltb, le-ltb}
+use Rattle.places.specs.Sets.{Words, bit, has, empty, word-of, set-of, single, union, difference, within, _⊆_}
+use Rattle.places.proofs.Bits.{bit-lt, bit-zero, bit-high, bit-or, bit-without, same-bits, or-within, within-or, or-set, without-set, yes-no, yes-no-set, word-of-lt, bit-word-of}
+
+-- tests that hold in the same cases are equal
+same-ltb : (a b c d : ℕ) → (a < b) ↔ (c < d) → ltb a b ≡ ltb c d
+same-ltb a b c d e = go (decLt a b)
+  where
+    go : Dec (a < b) → ltb a b ≡ ltb c d
+    go (yes h) = lt-ltb a b h ∙ sym (lt-ltb c d (e .0 h))
+    go (no g) =
+        le-ltb a b (omega arith) ∙ sym (le-ltb c d (le-of-suc-le-suc (lt-of-not-le (λ l. g (e .1 l)))))
+
+-- two bits of which the second is set where the first is
+yes-le : {x y : ℕ} → x < 2 → (eqb x 1 ≡ true → eqb y 1 ≡ true) → x ≤ y
+yes-le {x} {y} h e = go (decLt 0 x)
+  where
+    go : Dec (0 < x) → x ≤ y
+    go (yes l) =
+        let one : x ≡ 1 = omega arith in
+        omega (arith, eqb-true y 1 (e (eq-eqb x 1 one)))
+    go (no g) = omega arith
+
+-- ---- what `⊆` means
+
+-- bit k of word w
+abbrev pub bit-at : List ℕ → ℕ → ℕ → ℕ
+bit-at s w k = bit k (getD s w 0)
+
+and-both : {s t : Bool} → s && t ≡ true → (s ≡ true) × (t ≡ true)
+and-both {s = true} e = (refl, e)
+and-both {s = false} e = absurd (false≢true e)
+
+both-and : {s t : Bool} → s ≡ true → t ≡ true → s && t ≡ true
+both-and {s} {t} p q = ap (λ (u : Bool). u && t) p ∙ q
+
+none-le : (k n : ℕ) → bit k 0 ≤ n
+none-le k n = rw (bit-zero k) zero-le
+
+within-bits : (a b : List ℕ) → within a b ≡ true → (w k : ℕ) → bit-at a w k ≤ bit-at b w k
+unfolding within
+within-bits [] b e w k = none-le k (bit-at b w k)
+within-bits (x ∷ a) [] e zero k = or-within x 0 (or-zero-r x ∙ eqb-true x 0 (and-both {s = eqb x 0} e .0)) k
+within-bits (x ∷ a) [] e (suc w) k = within-bits a [] (and-both {s = eqb x 0} e .1) w k
+within-bits (x ∷ a) (y ∷ b) e zero k = or-within x y (eqb-true (bitOr x y) y (and-both {s = eqb (bitOr x y) y} e .0)) k
+within-bits (x ∷ a) (y ∷ b) e (suc w) k = within-bits a b (and-both {s = eqb (bitOr x y) y} e .1) w k
+
+bits-within : (a b : List ℕ) → ((w k : ℕ) → bit-at a w k ≤ bit-at b w k) → within a b ≡ true
+unfolding within
+bits-within [] b h = refl
+bits-within (x ∷ a) [] h = both-and (eq-eqb x 0 (sym (or-zero-r x) ∙ within-or x 0 (λ k. h 0 k))) (bits-within a [] (λ w k. h (suc w) k))
+bits-within (x ∷ a) (y ∷ b) h = both-and (eq-eqb (bitOr x y) y (within-or x y (λ k. h 0 k))) (bits-within a b (λ w k. h (suc w) k))
+
+pub ⊆-bits : {a b : List ℕ} → a ⊆ b → (w k : ℕ) → bit-at a w k ≤ bit-at b w k
+⊆-bits {a} {b} h = within-bits a b (h .holds)
+
+pub bits-⊆ : {a b : List ℕ} → ((w k : ℕ) → bit-at a w k ≤ bit-at b w k) → a ⊆ b
+bits-⊆ {a} {b} h = record { holds = bits-within a b h }
+
+-- ---- the order
+
+pub ⊆-refl : (a : List ℕ) → a ⊆ a
+⊆-refl a = bits-⊆ (λ w k. le-refl (bit-at a w k))
+
+pub ⊆-trans : {a b c : List ℕ} → a ⊆ b → b ⊆ c → a ⊆ c
+⊆-trans h l = bits-⊆ (λ w k. le-trans (⊆-bits h w k) (⊆-bits l w k))
+
+-- sets of equally many words
+pub ⊆-antisym : {a b : List ℕ} → length a ≡ length b → a ⊆ b → b ⊆ a → a ≡ b
+⊆-antisym {a} {b} e h l =
+    ext-getD 0 a b e (λ w lt. same-bits (getD a w 0) (getD b w 0) (λ k. le-antisymm (⊆-bits h w k) (⊆-bits l w k)))
+
+empty-word : (n w : ℕ) → _≡_ {A = ℕ} (getD (empty n) w 0) 0
+empty-word zero w = refl
+empty-word (suc n) zero = refl
+empty-word (suc n) (suc w) = empty-word n w
+
+pub empty-⊆ : (n : ℕ) (a : List ℕ) → empty n ⊆ a
+empty-⊆ n a = bits-⊆ (λ w k. rw (empty-word n w) (none-le k (bit-at a w k)))
+
+-- ---- union: the least upper bound
+
+union-bit : (a b : List ℕ) (w k : ℕ) → bit-at (union a b) w k ≡ max (bit-at a w k) (bit-at b w k)
+unfolding union
+union-bit [] b w k = sym (ap (λ (n : ℕ). max n (bit-at b w k)) (bit-zero k) ∙ zero-max (bit-at b w k))
+union-bit (x ∷ a) [] w k = sym (ap (max (bit-at (x ∷ a) w k)) (bit-zero k) ∙ max-zero (bit-at (x ∷ a) w k))
+union-bit (x ∷ a) (y ∷ b) zero k = bit-or k x y
+union-bit (x ∷ a) (y ∷ b) (suc w) k = union-bit a b w k
+
+pub ⊆-union-left : (a b : List ℕ) → a ⊆ union a b
+⊆-union-left a b = bits-⊆ (λ w k. rw union-bit (le-max-left _ _))
+
+pub ⊆-union-right : (a b : List ℕ) → b ⊆ union a b
+⊆-union-right a b = bits-⊆ (λ w k. rw union-bit (le-max-right _ _))
+
+pub union-least : {a b c : List ℕ} → a ⊆ c → b ⊆ c → union a b ⊆ c
+union-least h l = bits-⊆ (λ w k. rw union-bit (max-le (⊆-bits h w k) (⊆-bits l w k)))
+
+-- ---- difference
+
+difference-bit : (a b : List ℕ) (w k : ℕ) → bit-at (difference a b) w k ≡ bit-at a w k - bit-at b w k
+unfolding difference
+difference-bit [] b w k = omega (arith, bit-zero k)
+difference-bit (x ∷ a) [] w k = omega (arith, bit-zero k)
+difference-bit (x ∷ a) (y ∷ b) zero k = bit-without k x y
+difference-bit (x ∷ a) (y ∷ b) (suc w) k = difference-bit a b w k
+
+pub difference-⊆ : (a b : List ℕ) → difference a b ⊆ a
+difference-⊆ a b = bits-⊆ (λ w k. omega (arith, difference-bit a b w k))
+
+-- ---- members
+
+pub has-empty : (n p : ℕ) → has (empty n) p ≡ false
+unfolding has
+has-empty n p = rw (empty-word n (p / 64), bit-zero (p % 64))
+
+pub has-union : (a b : List ℕ) (p : ℕ) → has (union a b) p ≡ has a p || has b p
+unfolding has
+has-union a b p =
+    ap (λ (n : ℕ). eqb n 1) (union-bit a b (p / 64) (p % 64)) ∙ or-set _ _ (bit-lt (p % 64) (getD a (p / 64) 0)) (bit-lt (p % 64) (getD b (p / 64) 0))
+
+pub has-difference : (a b : List ℕ) (p : ℕ) → has (difference a b) p ≡ has a p && not (has b p)
+unfolding has
+has-difference a b p =
+    ap (λ (n : ℕ). eqb n 1) (difference-bit a b (p / 64) (p % 64)) ∙ without-set _ _ (bit-lt (p % 64) (getD a (p / 64) 0)) (bit-lt (p % 64) (getD b (p / 64) 0))
+
+-- a set of n words has places below 64 · n only
+pub has-below : (s : List ℕ) (p : ℕ) → has s p ≡ true → p < 64 * length s
+unfolding has
+has-below s p e = go (decLt p (64 * length s))
+  where
+    go : Dec (p < 64 * length s) → p < 64 * length s
+    go (yes l) = l
+    go (no g) =
+        let past : length s ≤ p / 64 = omega arith in
+        absurd (false≢true (sym (rw (List·getD-eq-default s 0 past, bit-zero (p % 64))) ∙ e))
+
+first-word : (x : ℕ) (s : List ℕ) (p : ℕ) → p < 64 → has (x ∷ s) p ≡ eqb (bit p x) 1
+unfolding has
+first-word x s p h =
+    let q : p / 64 ≡ 0 = omega arith in
+    let r : p % 64 ≡ p = omega arith in
+    rw (q, r)
+
+later-words : (x : ℕ) (s : List ℕ) (p : ℕ) → has (x ∷ s) (64 + p) ≡ has s p
+unfolding has
+later-words x s p =
+    let q : (64 + p) / 64 ≡ suc (p / 64) = omega arith in
+    let r : (64 + p) % 64 ≡ p % 64 = omega arith in
+    rw (q, r)
+
+-- the members of the set of a predicate: the places below 64 · n that it picks
+pub has-set-of : (n : ℕ) (f : ℕ → Bool) (p : ℕ) → has (set-of n f) p ≡ ltb p (64 * n) && f p
+unfolding set-of
+has-set-of zero f p = has-empty 0 p ∙ sym (rw (le-ltb p (64 * 0) (omega arith)))
+has-set-of (suc n) f p = go (has-set-of n (λ q. f (64 + q))) (decLt p 64)
+  where
+    size-is : 64 * suc n ≡ 64 + 64 * n
+    size-is = omega arith
+
+    go : ((q : ℕ) → has (set-of n (λ q. f (64 + q))) q ≡ ltb q (64 * n) && f (64 + q)) → Dec (p < 64) → has (set-of (suc n) f) p ≡ ltb p (64 * suc n) && f p
+    go later (yes l) =
+        first-word (word-of f 64) (set-of n (λ q. f (64 + q))) p l
+        ∙ ap (λ (m : ℕ). eqb m 1) (bit-word-of f 64 p l)
+        ∙ yes-no-set (f p)
+        ∙ sym (rw (lt-ltb p (64 * suc n) (omega arith)))
+    go later (no g) =
+        let q : ℕ = p - 64 in
+        let e : p ≡ 64 + q = omega arith in
+        rw e
+        (later-words (word-of f 64) (set-of n (λ q. f (64 + q))) q
+        ∙ later q
+        ∙ ap (λ (t : Bool). t && f (64 + q)) (same-ltb q (64 * n) (64 + q) (64 * suc n) (λ h. omega arith, λ h. omega arith)))
+
+pub has-single : (n p q : ℕ) → has (single n p) q ≡ ltb q (64 * n) && eqb q p
+unfolding single
+has-single n p q = has-set-of n (λ q. eqb q p) q
+
+-- a set of 64-bit words is within another where each of its members is one of the other's, and only there
+pub ⊆-members : {a b : List ℕ} → Words a → (a ⊆ b) ↔ ((p : ℕ) → has a p ≡ true → has b p ≡ true)
+unfolding has
+⊆-members {a} {b} words = (λ h p e. up h p e, λ h. bits-⊆ (λ w k. down h w k (decLt k 64)))
+  where
+    up : a ⊆ b → (p : ℕ) → has a p ≡ true → has b p ≡ true
+    up h p e =
+        let one : bit-at a (p / 64) (p % 64) ≡ 1 = eqb-true _ 1 e in
+        eq-eqb (bit-at b (p / 64) (p % 64)) 1 (omega (arith, ⊆-bits h (p / 64) (p % 64), bit-lt (p % 64) (getD b (p / 64) 0)))
+
+    down : ((p : ℕ) → has a p ≡ true → has b p ≡ true) → (w k : ℕ) → Dec (k < 64) → bit-at a w k ≤ bit-at b w k
+    down h w k (yes l) =
+        let p : ℕ = 64 * w + k in
+        let q : p / 64 ≡ w = omega arith in
+        let r : p % 64 ≡ k = omega arith in
+        yes-le (bit-lt k (getD a w 0)) (rw (q, r) at (h p))
+    down h w k (no g) =
+        let past : 64 ≤ k = omega arith in
+        rw (bit-high k (getD a w 0) (lt-of-lt-of-le (words .fits w) (pow-mono past))) zero-le
+
+-- ---- numbers of words, and words of 64 bits
+
+pub length-union : (a b : List ℕ) → length (union a b) ≡ max (length a) (length b)
+unfolding union
+length-union [] b = sym (zero-max (length b))
+length-union (x ∷ a) [] = sym (max-zero (length (x ∷ a)))
+length-union (x ∷ a) (y ∷ b) = ap suc (length-union a b) ∙ sym (suc-max-suc (length a) (length b))
+
+pub length-difference : (a b : List ℕ) → length (difference a b) ≡ length a
+unfolding difference
+length-difference [] b = refl
+length-difference (x ∷ a) [] = refl
+length-difference (x ∷ a) (y ∷ b) = ap suc (length-difference a b)
+
+pub length-set-of : (n : ℕ) (f : ℕ → Bool) → length (set-of n f) ≡ n
+unfolding set-of
+length-set-of zero f = refl
+length-set-of (suc n) f = ap suc (length-set-of n (λ p. f (64 + p)))
+
+pub length-single : (n p : ℕ) → length (single n p) ≡ n
+unfolding single
+length-single n p = length-set-of n (λ q. eqb q p)
+
+pub words-empty : (n : ℕ) → Words (empty n)
+words-empty n = record { fits = λ w. rw (empty-word n w) (pow-pos 64) }
+
+pub words-union : {a b : List ℕ} → Words a → Words b → Words (union a b)
+unfolding union
+words-union {a} {b} h l = record { fits = go a b (h .fits) (l .fits) }
+  where
+    go : (a b : List ℕ) → ((w : ℕ) → getD a w 0 < 2 ^ 64) → ((w : ℕ) → getD b w 0 < 2 ^ 64) → (w : ℕ) → getD (union a b) w 0 < 2 ^ 64
+    go [] b h l w = l w
+    go (x ∷ a) [] h l w = h w
+    go (x ∷ a) (y ∷ b) h l zero = or-lt 64 x y (h 0) (l 0)
+    go (x ∷ a) (y ∷ b) h l (suc w) = go a b (λ w. h (suc w)) (λ w. l (suc w)) w
+
+pub words-difference : {a b : List ℕ} → Words a → Words b → Words (difference a b)
+unfolding difference
+words-difference {a} {b} h l = record { fits = go a b (h .fits) (l .fits) }
+  where
+    go : (a b : List ℕ) → ((w : ℕ) → getD a w 0 < 2 ^ 64) → ((w : ℕ) → getD b w 0 < 2 ^ 64) → (w : ℕ) → getD (difference a b) w 0 < 2 ^ 64
+    go [] b h l w = h w
+    go (x ∷ a) [] h l w = h w
+    go (x ∷ a) (y ∷ b) h l zero = xor-lt 64 x (bitAnd x y) (h 0) (and-lt 64 x y (h 0) (l 0))
+    go (x ∷ a) (y ∷ b) h l (suc w) = go a b (λ w. h (suc w)) (λ w. l (suc w)) w
+
+pub words-set-of : (n : ℕ) (f : ℕ → Bool) → Words (set-of n f)
+unfolding set-of
+words-set-of n f = record { fits = go n f }
+  where
+    go : (n : ℕ) (f : ℕ → Bool) (w : ℕ) → getD (set-of n f) w 0 < 2 ^ 64
+    go zero f w = pow-pos 64
+    go (suc n) f zero = word-of-lt f 64
+    go (suc n) f (suc w) = go n (λ p. f (64 + p)) w

@@ -1,0 +1,193 @@
+-- Sets with members in one word only: a place alone, a region.
+use mathlib.Core.Path.{_≡_, refl, sym, ap, ap₂, _∙_}
+use mathlib.Core.List.{List, [], _∷_}
+use mathlib.Core.Bool.{Bool, true, false, _&&_, cond}
+use Prim.Native.Nat.{ℕ, zero, suc, _+_, _-_, _*_, _/_, _%_, _^_, _≤_, _<_}
+use mathlib.Core.Logic.{⊎-elim}
+use native.Mathlib.Decide.{ℕ-discrete}
+use native.Mathlib.Nat.{not-suc-le-zero, le-of-suc-le-suc, eq-or-lt-of-le, add-zero, add-suc, add-assoc, add-comm, add-mul, mul-zero, mul-suc, suc-mul, one-mul, mul-le-mul-right}
+use native.Mathlib.Numerals.{add-one}
+use native.Mathlib.Omega.{arith}
+use lib.Dec.{eqb, ltb, eqb·suc-suc, lit<}
+use lib.Pow.{pow-add}
+use lib.ListN.{length, set, replicate}
+use borrow.Author.Tests.{eq-eqb, ne-eqb}
+use Rattle.places.specs.declared.Range.{Range}
+use Rattle.places.specs.declared.Region.{Region}
+use Rattle.places.specs.Sets.{has, empty, word-of, set-of, single}
+use Rattle.places.specs.Regions.{in-range, in-region, region-set, repeated}
+use Rattle.places.proofs.Sets.{has-set-of, length-set-of}
+
+-- ---- words and sets of predicates that agree
+
+word-of-cong : (f g : ℕ → Bool) (n : ℕ) → ((k : ℕ) → k < n → f k ≡ g k) → word-of f n ≡ word-of g n
+unfolding word-of
+word-of-cong f g zero h = refl
+word-of-cong f g (suc n) h = ap₂ (λ (x : ℕ) (b : Bool). x + cond b (2 ^ n) 0) (word-of-cong f g n (λ k l. h k (omega arith))) (h n (omega arith))
+
+set-of-cong : (f g : ℕ → Bool) (n : ℕ) → ((p : ℕ) → p < 64 * n → f p ≡ g p) → set-of n f ≡ set-of n g
+unfolding set-of
+set-of-cong f g zero h = refl
+set-of-cong f g (suc n) h =
+    ap₂ (λ (x : ℕ) (s : List ℕ). x ∷ s)
+    (word-of-cong f g 64 (λ k l. h k (omega arith)))
+    (set-of-cong (λ p. f (64 + p)) (λ p. g (64 + p)) n (λ p l. h (64 + p) (omega arith)))
+
+word-of-none : (n : ℕ) → word-of (λ k. false) n ≡ 0
+unfolding word-of
+word-of-none zero = refl
+word-of-none (suc n) = omega (arith, word-of-none n)
+
+set-of-none : (n : ℕ) → set-of n (λ p. false) ≡ empty n
+unfolding set-of
+set-of-none zero = refl
+set-of-none (suc n) = ap₂ (λ (x : ℕ) (s : List ℕ). x ∷ s) (word-of-none 64) (set-of-none n)
+
+-- ---- members in word t only, at the bits that g picks
+
+abbrev in-word : ℕ → (ℕ → Bool) → ℕ → Bool
+in-word t g p = eqb (p / 64) t && g (p % 64)
+
+pub one-word : (n t : ℕ) (g : ℕ → Bool) → t < n → set-of n (in-word t g) ≡ set (empty n) t (word-of g 64)
+unfolding set-of
+one-word zero t g h = absurd (not-suc-le-zero h)
+one-word (suc n) zero g h =
+    ap₂ (λ (x : ℕ) (s : List ℕ). x ∷ s)
+    (word-of-cong (in-word 0 g) g 64 (λ k l. here k l))
+    (set-of-cong (λ p. in-word 0 g (64 + p)) (λ p. false) n (λ p l. past p) ∙ set-of-none n)
+  where
+    here : (k : ℕ) → k < 64 → in-word 0 g k ≡ g k
+    here k l =
+        let q : k / 64 ≡ 0 = omega arith in
+        let r : k % 64 ≡ k = omega arith in
+        rw (q, r)
+
+    past : (p : ℕ) → in-word 0 g (64 + p) ≡ false
+    past p = rw (ne-eqb ((64 + p) / 64) 0 (λ e. omega arith))
+one-word (suc n) (suc t) g h =
+    ap₂ (λ (x : ℕ) (s : List ℕ). x ∷ s)
+    (word-of-cong (in-word (suc t) g) (λ k. false) 64 (λ k l. before k l) ∙ word-of-none 64)
+    (set-of-cong (λ p. in-word (suc t) g (64 + p)) (in-word t g) n (λ p l. next p) ∙ one-word n t g (le-of-suc-le-suc h))
+  where
+    before : (k : ℕ) → k < 64 → in-word (suc t) g k ≡ false
+    before k l = rw (ne-eqb (k / 64) (suc t) (λ e. omega arith))
+
+    next : (p : ℕ) → in-word (suc t) g (64 + p) ≡ in-word t g p
+    next p =
+        let q : (64 + p) / 64 ≡ suc (p / 64) = omega arith in
+        let r : (64 + p) % 64 ≡ p % 64 = omega arith in
+        rw (q, r, eqb·suc-suc)
+
+-- ---- a place alone
+
+word-of-one : (k n : ℕ) → k < n → word-of (λ i. eqb i k) n ≡ 2 ^ k
+unfolding word-of
+word-of-one k zero h = absurd (not-suc-le-zero h)
+word-of-one k (suc n) h =
+    ⊎-elim
+    (λ (e : k ≡ n). rw (e, eq-eqb n n refl) (ap (λ (m : ℕ). m + 2 ^ n) (word-of-cong (λ i. eqb i n) (λ i. false) n (λ i l. ne-eqb i n (λ q. omega arith)) ∙ word-of-none n) ∙ omega arith))
+    (λ (l : k < n). rw (ne-eqb n k (λ q. omega arith)) (omega (arith, word-of-one k n l)))
+    (eq-or-lt-of-le (le-of-suc-le-suc h))
+
+pub single-word : (n p : ℕ) → p < 64 * n → single n p ≡ set (empty n) (p / 64) (2 ^ (p % 64))
+unfolding single
+single-word n p h =
+    set-of-cong (λ q. eqb q p) (in-word (p / 64) (λ k. eqb k (p % 64))) n (λ q l. split q)
+    ∙ one-word n (p / 64) (λ k. eqb k (p % 64)) (omega arith)
+    ∙ ap (set (empty n) (p / 64)) (word-of-one (p % 64) 64 (omega arith))
+  where
+    split : (q : ℕ) → eqb q p ≡ in-word (p / 64) (λ k. eqb k (p % 64)) q
+    split q = go (ℕ-discrete (q / 64) (p / 64)) (ℕ-discrete (q % 64) (p % 64))
+      where
+        go : Dec (q / 64 ≡ p / 64) → Dec (q % 64 ≡ p % 64) → eqb q p ≡ in-word (p / 64) (λ k. eqb k (p % 64)) q
+        go (yes e) (yes r) = rw (eq-eqb q p (omega arith), eq-eqb (q / 64) (p / 64) e, eq-eqb (q % 64) (p % 64) r)
+        go (yes e) (no r) = rw (ne-eqb q p (λ x. r (ap (λ (m : ℕ). m % 64) x)), eq-eqb (q / 64) (p / 64) e, ne-eqb (q % 64) (p % 64) r)
+        go (no e) r = rw (ne-eqb q p (λ x. e (ap (λ (m : ℕ). m / 64) x)), ne-eqb (q / 64) (p / 64) e)
+
+-- ---- a region
+
+pick-le : (b : Bool) (x : ℕ) → cond b x 0 ≤ x
+pick-le true x = omega arith
+pick-le false x = omega arith
+
+-- a pattern of `width` bits, repeated n times, takes width · n bits
+pub repeated-lt : (pattern width : ℕ) (range : Range) (n : ℕ) → pattern < 2 ^ width → repeated pattern width range n < 2 ^ (width * n)
+unfolding repeated
+repeated-lt pattern width range zero h = rw mul-zero (lit< tt)
+repeated-lt pattern width range (suc n) h =
+    let whole : 2 ^ (width * suc n) ≡ 2 ^ width * 2 ^ (width * n) = rw (mul-suc width n, add-comm (width * n) width) (pow-add 2 width (width * n)) in
+    rw whole
+    (omega
+    (arith, repeated-lt pattern width range n h, pick-le (in-range range n) (pattern * 2 ^ (width * n)), mul-le-mul-right (2 ^ (width * n)) h, suc-mul pattern (2 ^ (width * n))))
+
+-- one position more, in the range or not
+pub repeated-turn : (pattern width : ℕ) (range : Range) (i : ℕ) (b : Bool) → in-range range i ≡ b
+    → repeated pattern width range (i + 1) ≡ repeated pattern width range i + cond b (pattern * 2 ^ (width * i)) 0
+unfolding repeated
+repeated-turn pattern width range i b e = rw (add-one, ← e)
+
+-- one bit at each number of the range
+pub bits-repeated : (range : Range) (n : ℕ) → repeated 1 1 range n ≡ word-of (in-range range) n
+unfolding repeated word-of
+bits-repeated range zero = refl
+bits-repeated range (suc n) = rw (bits-repeated range n, one-mul (2 ^ (1 * n)), one-mul n)
+
+pick-mul : (b : Bool) (x y : ℕ) → cond b x 0 * y ≡ cond b (x * y) 0
+pick-mul true x y = refl
+pick-mul false x y = omega arith
+
+-- the bits of a word from m on are those of the predicate moved down by m
+word-of-add : (f : ℕ → Bool) (m n : ℕ) → word-of f (m + n) ≡ word-of f m + word-of (λ k. f (m + k)) n * 2 ^ m
+unfolding word-of
+word-of-add f m zero = rw add-zero (omega arith)
+word-of-add f m (suc n) =
+    rw (add-suc m n, word-of-add f m n, add-comm m n, pow-add 2 n m, ← pick-mul (f (n + m)) (2 ^ n) (2 ^ m), add-comm n m)
+    (omega (arith, add-mul (word-of (λ k. f (m + k)) n) (cond (f (m + n)) (2 ^ n) 0) (2 ^ m)))
+
+word-of-and : (b : Bool) (g : ℕ → Bool) (n : ℕ) → word-of (λ k. b && g k) n ≡ cond b (word-of g n) 0
+word-of-and true g n = refl
+word-of-and false g n = word-of-none n
+
+-- the bits of a table's word at the owners and lines of two ranges
+abbrev pub in-rows : Range → Range → ℕ → Bool
+in-rows owners lines k = in-range owners (k / 8) && in-range lines (k % 8)
+
+-- rows of lines, one for each owner of the range
+pub rows-repeated : (owners lines : Range) (n : ℕ) → repeated (word-of (in-range lines) 8) 8 owners n ≡ word-of (in-rows owners lines) (8 * n)
+unfolding repeated
+rows-repeated owners lines zero = unfold word-of in refl
+rows-repeated owners lines (suc n) =
+    let e : 8 * suc n ≡ 8 * n + 8 = omega arith in
+    rw (e, word-of-add (in-rows owners lines) (8 * n) 8, rows-repeated owners lines n, row, pick-mul (in-range owners n) (word-of (in-range lines) 8) (2 ^ (8 * n)))
+  where
+    bits : (k : ℕ) → k < 8 → in-rows owners lines (8 * n + k) ≡ in-range owners n && in-range lines k
+    bits k l =
+        let q : (8 * n + k) / 8 ≡ n = omega arith in
+        let r : (8 * n + k) % 8 ≡ k = omega arith in
+        rw (q, r)
+
+    row : word-of (λ k. in-rows owners lines (8 * n + k)) 8 ≡ cond (in-range owners n) (word-of (in-range lines) 8) 0
+    row =
+        word-of-cong (λ k. in-rows owners lines (8 * n + k)) (λ k. in-range owners n && in-range lines k) 8 bits
+        ∙ word-of-and (in-range owners n) (in-range lines) 8
+
+pub region-word : (n : ℕ) (r : Region) → r .table < n → region-set n r ≡ set (empty n) (r .table) (word-of (in-rows (r .owners) (r .lines)) 64)
+unfolding region-set in-region
+region-word n r h =
+    set-of-cong (in-region r) (in-word (r .table) (in-rows (r .owners) (r .lines))) n (λ p l. split p)
+    ∙ one-word n (r .table) (in-rows (r .owners) (r .lines)) h
+  where
+    split : (p : ℕ) → in-region r p ≡ in-word (r .table) (in-rows (r .owners) (r .lines)) p
+    split p =
+        let q : p % 64 / 8 ≡ p / 8 % 8 = omega arith in
+        let e : p % 64 % 8 ≡ p % 8 = omega arith in
+        rw (q, e)
+
+-- the members of a region: the places of n words that it holds
+pub has-region : (n : ℕ) (r : Region) (p : ℕ) → has (region-set n r) p ≡ ltb p (64 * n) && in-region r p
+unfolding region-set
+has-region n r p = has-set-of n (in-region r) p
+
+pub length-region : (n : ℕ) (r : Region) → length (region-set n r) ≡ n
+unfolding region-set
+length-region n r = length-set-of n (in-region r)

@@ -1,0 +1,4 @@
+pub mod Places
+pub mod Sets
+pub mod Regions
+pub mod Labels

@@ -1,0 +1,84 @@
+-- Sets of places (the paper's labels, presence, and read, write and public sets) as lists of 64-bit words.
+-- Place p is bit p % 64 of word p / 64, which is bit 8 · owner + line of word `table`. Nothing here fixes the number of words.
+use mathlib.Core.Path.{_≡_}
+use mathlib.Core.List.{List, [], _∷_}
+use mathlib.Core.Bool.{Bool, true, false, _&&_, cond}
+use mathlib.Core.Option.{Option, none, some}
+use Prim.Native.Nat.{ℕ, zero, suc, _+_, _*_, _/_, _%_, _^_, _<_}
+use lib.Bits.{bitOr, bitAnd, bitXor}
+use lib.Dec.{eqb}
+use lib.ListN.{length, getD, replicate}
+
+-- each word is a number of 64 bits
+pub record Words (s : List ℕ) : Type 0 where
+  pub fits : (w : ℕ) → getD s w 0 < 2 ^ 64
+
+-- bit k of a number, 0 or 1
+abbrev pub bit : ℕ → ℕ → ℕ
+bit k n = n / 2 ^ k % 2
+
+-- membership: whether place p is in the set; words past the end have no members
+unfoldable pub has : List ℕ → ℕ → Bool
+has s p = eqb (bit (p % 64) (getD s (p / 64) 0)) 1
+
+-- the empty set, of n words
+abbrev pub empty : ℕ → List ℕ
+empty n = replicate n 0
+
+-- the number whose bits below n are those that f picks
+unfoldable pub word-of : (ℕ → Bool) → ℕ → ℕ
+word-of f zero = 0
+word-of f (suc k) = word-of f k + cond (f k) (2 ^ k) 0
+
+-- the set of a predicate: the places below 64 · n that f picks, in n words
+unfoldable pub set-of : ℕ → (ℕ → Bool) → List ℕ
+set-of zero f = []
+set-of (suc n) f = word-of f 64 ∷ set-of n (λ p. f (64 + p))
+
+-- the set of place p alone, of n words
+unfoldable pub single : ℕ → ℕ → List ℕ
+single n p = set-of n (λ q. eqb q p)
+
+-- the places of either set
+unfoldable pub union : List ℕ → List ℕ → List ℕ
+union [] b = b
+union (x ∷ a) [] = x ∷ a
+union (x ∷ a) (y ∷ b) = bitOr x y ∷ union a b
+
+-- the places of the first set that the second lacks
+unfoldable pub difference : List ℕ → List ℕ → List ℕ
+difference [] b = []
+difference (x ∷ a) [] = x ∷ a
+difference (x ∷ a) (y ∷ b) = bitXor x (bitAnd x y) ∷ difference a b
+
+-- whether each place of the first set is one of the second
+unfoldable pub within : List ℕ → List ℕ → Bool
+within [] b = true
+within (x ∷ a) [] = eqb x 0 && within a []
+within (x ∷ a) (y ∷ b) = eqb (bitOr x y) y && within a b
+
+infix 40 _⊆_
+pub record _⊆_ (a b : List ℕ) : Type 0 where
+  pub holds : within a b ≡ true
+
+-- how many of the numbers below n are picked by f
+unfoldable pub tally : (ℕ → Bool) → ℕ → ℕ
+tally f zero = 0
+tally f (suc n) = tally f n + cond (f n) 1 0
+
+-- the number of members
+unfoldable pub size : List ℕ → ℕ
+size s = tally (has s) (64 * length s)
+
+abbrev pub or-else : Option ℕ → Option ℕ → Option ℕ
+or-else (some p) q = some p
+or-else none q = q
+
+-- the least number below n that f picks
+unfoldable pub first : (ℕ → Bool) → ℕ → Option ℕ
+first f zero = none
+first f (suc n) = or-else (first f n) (cond (f n) (some n) none)
+
+-- the lowest member
+unfoldable pub lowest : List ℕ → Option ℕ
+lowest s = first (has s) (64 * length s)

@@ -1,0 +1,11 @@
+//! Reads, writes and runs trust books. It is written for plainness, to be
+//! compared with a runner that is written for proof.
+
+pub mod book;
+pub mod builder;
+mod decode;
+mod interpreter;
+pub mod places;
+pub mod run;
+pub mod run_list;
+pub mod writer;

@@ -1,0 +1,116 @@
+//! Sets of places: labels, rights and presence all have this form.
+
+use crate::book::Region;
+
+/// The number of a cell among all 512; it is also its bit in a set.
+pub fn place(table: u8, owner: u8, line: u8) -> usize {
+    64 * usize::from(table) + 8 * usize::from(owner) + usize::from(line)
+}
+
+/// A set of places: one word for each table, bit 8·owner + line within it.
+#[derive(Clone, Copy, Debug, Default, PartialEq, Eq)]
+pub struct Places(pub [u64; 8]);
+
+impl Places {
+    pub const EMPTY: Places = Places([0; 8]);
+
+    /// The set with one member.
+    pub fn single(place: usize) -> Places {
+        let mut set = Places::EMPTY;
+        set.insert(place);
+        set
+    }
+
+    /// Every place of a region whose ends are 0–7.
+    pub fn of_region(region: &Region) -> Places {
+        let mut set = Places::EMPTY;
+        for owner in region.owner_first..=region.owner_last {
+            for line in region.line_first..=region.line_last {
+                set.insert(place(region.table, owner, line));
+            }
+        }
+        set
+    }
+
+    pub fn insert(&mut self, place: usize) {
+        self.0[place / 64] |= 1 << (place % 64);
+    }
+
+    pub fn holds(&self, place: usize) -> bool {
+        self.0[place / 64] >> (place % 64) & 1 == 1
+    }
+
+    /// Whether every member is also in `other`.
+    pub fn within(&self, other: &Places) -> bool {
+        self.0
+            .iter()
+            .zip(&other.0)
+            .all(|(own, theirs)| own & !theirs == 0)
+    }
+
+    pub fn add(&mut self, other: &Places) {
+        self.add_words(&other.0);
+    }
+
+    /// Adds a set that is stored as eight words.
+    pub fn add_words(&mut self, words: &[u64]) {
+        for (own, more) in self.0.iter_mut().zip(words) {
+            *own |= more;
+        }
+    }
+
+    pub fn remove(&mut self, other: &Places) {
+        for (own, less) in self.0.iter_mut().zip(&other.0) {
+            *own &= !less;
+        }
+    }
+
+    pub fn union(mut self, other: &Places) -> Places {
+        self.add(other);
+        self
+    }
+}
+
+#[cfg(test)]
+mod tests {
+    use super::*;
+
+    #[test]
+    fn place_counts_lines_then_owners_then_tables() {
+        assert_eq!(place(0, 0, 0), 0);
+        assert_eq!(place(1, 2, 3), 83);
+        assert_eq!(place(7, 7, 7), 511);
+    }
+
+    #[test]
+    fn single_sets_one_bit_of_the_tables_word() {
+        assert_eq!(Places::single(83).0, [0, 1 << 19, 0, 0, 0, 0, 0, 0]);
+        assert!(Places::single(83).holds(83));
+        assert!(!Places::single(83).holds(19));
+    }
+
+    #[test]
+    fn region_covers_both_ends() {
+        let region = Region {
+            table: 2,
+            owner_first: 6,
+            owner_last: 7,
+            line_first: 1,
+            line_last: 2,
+        };
+        let word = 0x0606_0000_0000_0000;
+        assert_eq!(Places::of_region(&region).0, [0, 0, word, 0, 0, 0, 0, 0]);
+    }
+
+    #[test]
+    fn within_union_and_remove() {
+        let low = Places::single(0);
+        let both = low.union(&Places::single(511));
+        assert!(Places::EMPTY.within(&Places::EMPTY));
+        assert!(low.within(&both));
+        assert!(!both.within(&low));
+        let mut rest = both;
+        rest.remove(&low);
+        assert_eq!(rest, Places::single(511));
+    }
+}

@@ -1,0 +1,119 @@
+//! Running a book file in memory that the caller lends.
+
+use crate::book::{Book, Refusal};
+use crate::interpreter::{Interpreter, Stop};
+use crate::places::place;
+use std::thread;
+
+const MOST_BUDGET: u32 = 1_000_000;
+const MOST_TRACE: usize = 65_536;
+
+/// Enough for the deepest legal nesting, about 9,000 commands (a chain of
+/// nearly all nodes as the program and again in each of eight triggers), even
+/// without optimisation.
+const DEEP_STACK: usize = 256 << 20;
+
+/// Memory lent to a run. A run accepts only 512 amounts, 8 words of presence,
+/// 4,096 words of labels and at most 65,536 bytes of trace.
+#[derive(Clone, Debug, PartialEq, Eq)]
+pub struct Memory {
+    pub amounts: Vec<i32>,
+    pub presence: Vec<u64>,
+    /// Eight words for each cell, in the order of places.
+    pub labels: Vec<u64>,
+    pub trace: Vec<u8>,
+}
+
+impl Memory {
+    /// Zeroed memory of the lengths that a run accepts, with this much trace.
+    pub fn new(trace: usize) -> Memory {
+        Memory {
+            amounts: vec![0; 512],
+            presence: vec![0; 8],
+            labels: vec![0; 4_096],
+            trace: vec![0; trace],
+        }
+    }
+
+    fn is_accepted(&self) -> bool {
+        self.amounts.len() == 512
+            && self.presence.len() == 8
+            && self.labels.len() == 4_096
+            && self.trace.len() <= MOST_TRACE
+    }
+
+    /// The state at the start: the book's cells, each cell labelled by itself.
+    fn load(&mut self, book: &Book) {
+        self.amounts.fill(0);
+        self.presence.fill(0);
+        self.labels.fill(0);
+        for place in 0..512 {
+            self.labels[8 * place + place / 64] = 1 << (place % 64);
+        }
+        for cell in &book.cells {
+            let place = place(cell.table, cell.owner, cell.line);
+            self.amounts[place] = cell.amount;
+            self.presence[place / 64] |= 1 << (place % 64);
+        }
+    }
+}
+
+/// Whether the tests on labels (25, 26, 27 and 29) are made. Labels themselves
+/// are kept either way.
+#[derive(Clone, Copy, Debug, PartialEq, Eq)]
+pub enum Tests {
+    Labelled,
+    Unlabelled,
+}
+
+/// The answer of a run. `number` and `node` are 0 if it finished; `bytes` is
+/// how much of the trace was written.
+#[derive(Clone, Copy, Debug, PartialEq, Eq)]
+pub enum Answer {
+    Refused(Refusal),
+    Ended {
+        number: u32,
+        node: u32,
+        cost: u32,
+        bytes: u32,
+    },
+}
+
+/// Runs a book. A refusal leaves all of `memory` as it was.
+pub fn run(file: &[u8], budget: u32, memory: &mut Memory, tests: Tests) -> Answer {
+    if budget > MOST_BUDGET || !memory.is_accepted() {
+        return Answer::Refused(Refusal {
+            number: 1,
+            index: 0,
+        });
+    }
+    let book = match Book::decode(file) {
+        Ok(book) => book,
+        Err(refusal) => return Answer::Refused(refusal),
+    };
+    memory.load(&book);
+    let mut interpreter = Interpreter::new(&book, memory, budget, tests);
+    let (number, node) = match interpreter.programs() {
+        Ok(()) => (0, 0),
+        Err(Stop { number, node }) => (number, u32::from(node)),
+    };
+    Answer::Ended {
+        number,
+        node,
+        cost: interpreter.cost(),
+        bytes: interpreter.bytes() as u32,
+    }
+}
+
+/// Does `work` on a thread whose stack holds the deepest legal book. A usual
+/// thread's stack does for books that nest less.
+pub fn on_deep_stack<T: Send>(work: impl FnOnce() -> T + Send) -> T {
+    thread::scope(|scope| {
+        thread::Builder::new()
+            .stack_size(DEEP_STACK)
+            .spawn_scoped(scope, work)
+            .expect("the system starts a thread")
+            .join()
+            .unwrap_or_else(|panic| std::panic::resume_unwind(panic))
+    })
+}
