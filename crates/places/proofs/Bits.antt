@@ -9,7 +9,7 @@ use lib.Arith.{bin-ind, digits-mod, digits-div}
 use lib.Pow.{shr-shr, pow-pos, pow-add}
 use lib.Bits.{bitOr, or-shr, or-step, bitAnd, and-shr, and-step, bitXor, xor-shr, xor-step, differ}
 use lib.Dec.{eqb, lit<}
-use Rattle.places.specs.Sets.{bit, word-of}
+use Rattle.places.specs.Sets.{bit, word-of, without}
 
 pub bit-lt : (k n : ℕ) → bit k n < 2
 bit-lt k n = mod-lt (n / 2 ^ k) (zero-lt-suc 1)
@@ -51,8 +51,7 @@ differ-min (suc zero) (suc zero) h l = refl
 differ-min (suc zero) (suc (suc y)) h l = absurd (not-suc-le-zero (le-of-suc-le-suc (le-of-suc-le-suc l)))
 differ-min (suc (suc x)) y h l = absurd (not-suc-le-zero (le-of-suc-le-suc (le-of-suc-le-suc h)))
 
--- what is left of a when the bits that it shares with b are taken out
-pub bit-without : (k a b : ℕ) → bit k (bitXor a (bitAnd a b)) ≡ bit k a - bit k b
+pub bit-without : (k a b : ℕ) → bit k (without a b) ≡ bit k a - bit k b
 bit-without k a b =
     bit-xor k a (bitAnd a b) ∙ ap (differ (bit k a)) (bit-and k a b) ∙ differ-min (bit k a) (bit k b) (bit-lt k a) (bit-lt k b)
 

@@ -6,11 +6,11 @@ use Prim.Native.Nat.{ℕ, zero, suc, _+_, _≤_, _<_}
 use native.Mathlib.Nat.{not-suc-le-zero, le-of-suc-le-suc}
 use native.Mathlib.Numerals.{add-one}
 use native.Mathlib.Omega.{arith}
-use lib.Bits.{bitOr, bitAnd, bitXor}
+use lib.Bits.{bitOr}
 use lib.Dec.{eqb}
 use lib.ListN.{length, getD, take, drop, set, drop-of-length-le}
 use lib.Seq.{drop-cons, take-all, paste, paste-suc}
-use Rattle.places.specs.Sets.{union, difference, within}
+use Rattle.places.specs.Sets.{within}
 
 -- ---- a loop that fills a list from the front with another, one store a turn
 
@@ -34,22 +34,6 @@ store-turn d s r at j h k q = rw (q, add-one) (paste-suc d at s j 0 h k)
 
 pub store-end : (d s r : List ℕ) (at j : ℕ) → j ≡ length s → r ≡ paste d at s j → r ≡ take at d ++ s ++ drop (at + length s) d
 store-end d s r at j e q = q ∙ rw (e, take-all (length s) s (omega arith))
-
--- ---- the words of a union and of a difference
-
-pub union-word : (a b : List ℕ) (i : ℕ) → i < length a → i < length b → getD (union a b) i 0 ≡ bitOr (getD a i 0) (getD b i 0)
-unfolding union
-union-word [] b i h l = absurd (not-suc-le-zero h)
-union-word (x ∷ a) [] i h l = absurd (not-suc-le-zero l)
-union-word (x ∷ a) (y ∷ b) zero h l = refl
-union-word (x ∷ a) (y ∷ b) (suc i) h l = union-word a b i (le-of-suc-le-suc h) (le-of-suc-le-suc l)
-
-pub difference-word : (a b : List ℕ) (i : ℕ) → i < length a → i < length b → getD (difference a b) i 0 ≡ bitXor (getD a i 0) (bitAnd (getD a i 0) (getD b i 0))
-unfolding difference
-difference-word [] b i h l = absurd (not-suc-le-zero h)
-difference-word (x ∷ a) [] i h l = absurd (not-suc-le-zero l)
-difference-word (x ∷ a) (y ∷ b) zero h l = refl
-difference-word (x ∷ a) (y ∷ b) (suc i) h l = difference-word a b i (le-of-suc-le-suc h) (le-of-suc-le-suc l)
 
 -- ---- a loop that tests word by word: what is left from i on
 

@@ -13,7 +13,7 @@ use lib.Dec.{eqb, ltb}
 use lib.ListN.{length, getD, replicate, length-replicate, List·getD-eq-default}
 use lib.Seq.{ext-getD}
 use borrow.Author.Tests.{eqb-true, eq-eqb, lt-ltb, le-ltb}
-use Rattle.places.specs.Sets.{Words, bit, has, empty, word-of, set-of, single, union, difference, within, _⊆_}
+use Rattle.places.specs.Sets.{Words, bit, has, empty, word-of, set-of, single, word-by-word, union, without, difference, within, _⊆_}
 use Rattle.places.proofs.Bits.{bit-lt, bit-zero, bit-high, bit-or, bit-without, same-bits, or-within, within-or, or-set, without-set, yes-no, yes-no-set, word-of-lt, bit-word-of}
 
 -- tests that hold in the same cases are equal
@@ -92,14 +92,45 @@ empty-word (suc n) (suc w) = empty-word n w
 pub empty-⊆ : (n : ℕ) (a : List ℕ) → empty n ⊆ a
 empty-⊆ n a = bits-⊆ (λ w k. rw (empty-word n w) (none-le k (bit-at a w k)))
 
+-- ---- word by word
+
+pub word-by-word-at : (f : ℕ → ℕ → ℕ) → f 0 0 ≡ 0 → (a b : List ℕ) (w : ℕ) → getD (word-by-word f a b) w 0 ≡ f (getD a w 0) (getD b w 0)
+unfolding word-by-word
+word-by-word-at f e [] [] w = sym e
+word-by-word-at f e [] (y ∷ b) zero = refl
+word-by-word-at f e [] (y ∷ b) (suc w) = word-by-word-at f e [] b w
+word-by-word-at f e (x ∷ a) [] zero = refl
+word-by-word-at f e (x ∷ a) [] (suc w) = word-by-word-at f e a [] w
+word-by-word-at f e (x ∷ a) (y ∷ b) zero = refl
+word-by-word-at f e (x ∷ a) (y ∷ b) (suc w) = word-by-word-at f e a b w
+
+pub length-word-by-word : (f : ℕ → ℕ → ℕ) (a b : List ℕ) → length (word-by-word f a b) ≡ max (length a) (length b)
+unfolding word-by-word
+length-word-by-word f [] [] = refl
+length-word-by-word f [] (y ∷ b) = ap suc (length-word-by-word f [] b ∙ zero-max (length b)) ∙ sym (zero-max (suc (length b)))
+length-word-by-word f (x ∷ a) [] = ap suc (length-word-by-word f a [] ∙ max-zero (length a)) ∙ sym (max-zero (suc (length a)))
+length-word-by-word f (x ∷ a) (y ∷ b) = ap suc (length-word-by-word f a b) ∙ sym (suc-max-suc (length a) (length b))
+
+pub union-word : (a b : List ℕ) (w : ℕ) → getD (union a b) w 0 ≡ bitOr (getD a w 0) (getD b w 0)
+unfolding union
+union-word a b w = word-by-word-at bitOr refl a b w
+
+pub difference-word : (a b : List ℕ) (w : ℕ) → getD (difference a b) w 0 ≡ without (getD a w 0) (getD b w 0)
+unfolding difference
+difference-word a b w = word-by-word-at without refl a b w
+
+pub length-union : (a b : List ℕ) → length (union a b) ≡ max (length a) (length b)
+unfolding union
+length-union a b = length-word-by-word bitOr a b
+
+pub length-difference : (a b : List ℕ) → length (difference a b) ≡ max (length a) (length b)
+unfolding difference
+length-difference a b = length-word-by-word without a b
+
 -- ---- union: the least upper bound
 
 union-bit : (a b : List ℕ) (w k : ℕ) → bit-at (union a b) w k ≡ max (bit-at a w k) (bit-at b w k)
-unfolding union
-union-bit [] b w k = sym (ap (λ (n : ℕ). max n (bit-at b w k)) (bit-zero k) ∙ zero-max (bit-at b w k))
-union-bit (x ∷ a) [] w k = sym (ap (max (bit-at (x ∷ a) w k)) (bit-zero k) ∙ max-zero (bit-at (x ∷ a) w k))
-union-bit (x ∷ a) (y ∷ b) zero k = bit-or k x y
-union-bit (x ∷ a) (y ∷ b) (suc w) k = union-bit a b w k
+union-bit a b w k = ap (bit k) (union-word a b w) ∙ bit-or k (getD a w 0) (getD b w 0)
 
 pub ⊆-union-left : (a b : List ℕ) → a ⊆ union a b
 ⊆-union-left a b = bits-⊆ (λ w k. rw union-bit (le-max-left _ _))
@@ -113,11 +144,7 @@ union-least h l = bits-⊆ (λ w k. rw union-bit (max-le (⊆-bits h w k) (⊆-b
 -- ---- difference
 
 difference-bit : (a b : List ℕ) (w k : ℕ) → bit-at (difference a b) w k ≡ bit-at a w k - bit-at b w k
-unfolding difference
-difference-bit [] b w k = omega (arith, bit-zero k)
-difference-bit (x ∷ a) [] w k = omega (arith, bit-zero k)
-difference-bit (x ∷ a) (y ∷ b) zero k = bit-without k x y
-difference-bit (x ∷ a) (y ∷ b) (suc w) k = difference-bit a b w k
+difference-bit a b w k = ap (bit k) (difference-word a b w) ∙ bit-without k (getD a w 0) (getD b w 0)
 
 pub difference-⊆ : (a b : List ℕ) → difference a b ⊆ a
 difference-⊆ a b = bits-⊆ (λ w k. omega (arith, difference-bit a b w k))
@@ -212,18 +239,6 @@ unfolding has
 
 -- ---- numbers of words, and words of 64 bits
 
-pub length-union : (a b : List ℕ) → length (union a b) ≡ max (length a) (length b)
-unfolding union
-length-union [] b = sym (zero-max (length b))
-length-union (x ∷ a) [] = sym (max-zero (length (x ∷ a)))
-length-union (x ∷ a) (y ∷ b) = ap suc (length-union a b) ∙ sym (suc-max-suc (length a) (length b))
-
-pub length-difference : (a b : List ℕ) → length (difference a b) ≡ length a
-unfolding difference
-length-difference [] b = refl
-length-difference (x ∷ a) [] = refl
-length-difference (x ∷ a) (y ∷ b) = ap suc (length-difference a b)
-
 pub length-set-of : (n : ℕ) (f : ℕ → Bool) → length (set-of n f) ≡ n
 unfolding set-of
 length-set-of zero f = refl
@@ -237,24 +252,11 @@ pub words-empty : (n : ℕ) → Words (empty n)
 words-empty n = record { fits = λ w. rw (empty-word n w) (pow-pos 64) }
 
 pub words-union : {a b : List ℕ} → Words a → Words b → Words (union a b)
-unfolding union
-words-union {a} {b} h l = record { fits = go a b (h .fits) (l .fits) }
-  where
-    go : (a b : List ℕ) → ((w : ℕ) → getD a w 0 < 2 ^ 64) → ((w : ℕ) → getD b w 0 < 2 ^ 64) → (w : ℕ) → getD (union a b) w 0 < 2 ^ 64
-    go [] b h l w = l w
-    go (x ∷ a) [] h l w = h w
-    go (x ∷ a) (y ∷ b) h l zero = or-lt 64 x y (h 0) (l 0)
-    go (x ∷ a) (y ∷ b) h l (suc w) = go a b (λ w. h (suc w)) (λ w. l (suc w)) w
+words-union {a} {b} h l = record { fits = λ w. rw union-word (or-lt 64 (getD a w 0) (getD b w 0) (h .fits w) (l .fits w)) }
 
 pub words-difference : {a b : List ℕ} → Words a → Words b → Words (difference a b)
-unfolding difference
-words-difference {a} {b} h l = record { fits = go a b (h .fits) (l .fits) }
-  where
-    go : (a b : List ℕ) → ((w : ℕ) → getD a w 0 < 2 ^ 64) → ((w : ℕ) → getD b w 0 < 2 ^ 64) → (w : ℕ) → getD (difference a b) w 0 < 2 ^ 64
-    go [] b h l w = h w
-    go (x ∷ a) [] h l w = h w
-    go (x ∷ a) (y ∷ b) h l zero = xor-lt 64 x (bitAnd x y) (h 0) (and-lt 64 x y (h 0) (l 0))
-    go (x ∷ a) (y ∷ b) h l (suc w) = go a b (λ w. h (suc w)) (λ w. l (suc w)) w
+words-difference {a} {b} h l =
+    record { fits = λ w. rw difference-word (xor-lt 64 (getD a w 0) (bitAnd (getD a w 0) (getD b w 0)) (h .fits w) (and-lt 64 (getD a w 0) (getD b w 0) (h .fits w) (l .fits w))) }
 
 pub words-set-of : (n : ℕ) (f : ℕ → Bool) → Words (set-of n f)
 unfolding set-of

@@ -39,17 +39,24 @@ set-of (suc n) f = word-of f 64 ∷ set-of n (λ p. f (64 + p))
 unfoldable pub single : ℕ → ℕ → List ℕ
 single n p = set-of n (λ q. eqb q p)
 
+-- f on the words of two sets, one by one; a word past an end counts as 0
+unfoldable pub word-by-word : (ℕ → ℕ → ℕ) → List ℕ → List ℕ → List ℕ
+word-by-word f [] [] = []
+word-by-word f [] (y ∷ b) = f 0 y ∷ word-by-word f [] b
+word-by-word f (x ∷ a) [] = f x 0 ∷ word-by-word f a []
+word-by-word f (x ∷ a) (y ∷ b) = f x y ∷ word-by-word f a b
+
 -- the places of either set
 unfoldable pub union : List ℕ → List ℕ → List ℕ
-union [] b = b
-union (x ∷ a) [] = x ∷ a
-union (x ∷ a) (y ∷ b) = bitOr x y ∷ union a b
+union a b = word-by-word bitOr a b
+
+-- the bits of x that y lacks
+abbrev pub without : ℕ → ℕ → ℕ
+without x y = bitXor x (bitAnd x y)
 
 -- the places of the first set that the second lacks
 unfoldable pub difference : List ℕ → List ℕ → List ℕ
-difference [] b = []
-difference (x ∷ a) [] = x ∷ a
-difference (x ∷ a) (y ∷ b) = bitXor x (bitAnd x y) ∷ difference a b
+difference a b = word-by-word without a b
 
 -- whether each place of the first set is one of the second
 unfoldable pub within : List ℕ → List ℕ → Bool

@@ -68,12 +68,12 @@ pub fn difference(a: [u64; 8], b: [u64; 8]) -> [u64; 8]
 pub fn within(a: [u64; 8], b: [u64; 8]) -> bool
     ensures { λ r. ⌜ r ≡ within a b ⌝ }
 {
-    let mut i: usize = 0;
-    while i < 8 {
-        if a[i] | b[i] != b[i] {
+    let mut word: usize = 0;
+    while word < 8 {
+        if a[word] | b[word] != b[word] {
             return false;
         }
-        i += 1;
+        word += 1;
     }
     true
 }
@@ -86,14 +86,14 @@ fn repeated(pattern: u64, width: usize, range: Range) -> u64
     let first = range.first;
     let last = range.last;
     let mut word: u64 = 0;
-    let mut i: usize = 0;
-    while i < 8 {
-        if first <= i {
-            if i <= last {
-                word = word + (pattern << (width * i));
+    let mut position: usize = 0;
+    while position < 8 {
+        if first <= position {
+            if position <= last {
+                word = word + (pattern << (width * position));
             }
         }
-        i += 1;
+        position += 1;
     }
     word
 }
@@ -118,10 +118,10 @@ pub fn label_at(labels: &[u64], place: usize) -> [u64; 8]
     ensures { λ r. ⌜ r ≡ label-at (now (labels .entry)) place ⌝ }
 {
     let mut label = [0u64; 8];
-    let mut i: usize = 0;
-    while i < 8 {
-        label[i] = labels[8 * place + i];
-        i += 1;
+    let mut offset: usize = 0;
+    while offset < 8 {
+        label[offset] = labels[8 * place + offset];
+        offset += 1;
     }
     label
 }
@@ -131,10 +131,10 @@ pub fn set_label(labels: &mut [u64], place: usize, label: [u64; 8])
     requires { ⌜ (place < 512) × (length (now labels) ≡ 4096) ⌝ }
     ensures { λ _. ⌜ now (labels .exit) ≡ set-label (now (labels .entry)) place label ⌝ }
 {
-    let mut i: usize = 0;
-    while i < 8 {
-        labels[8 * place + i] = label[i];
-        i += 1;
+    let mut offset: usize = 0;
+    while offset < 8 {
+        labels[8 * place + offset] = label[offset];
+        offset += 1;
     }
 }
 

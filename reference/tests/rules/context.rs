@@ -1,6 +1,7 @@
 //! The context of if and while, and stop 25.
 
-use crate::{amount_of, cell, finish, program, put_at, stop, three_cells, when, A, B};
+use crate::common::ended;
+use crate::{amount_of, cell, finish, program, put_at, run_amply, stop, three_cells, when, A, B};
 use reference::book::kind;
 use reference::builder::Builder;
 
@@ -174,32 +175,22 @@ fn every_round_is_in_the_context_of_all_tests_so_far() {
     assert_eq!(cell(&finish(&b.book), 1, 0, 0), (Some(2), vec![1]));
 }
 
-/// The first test reads A alone and the second reads B as well, as the body
-/// moves the last line from A to B. What the body assigns then has both.
+/// The body moves the last line of the test's sum from A to B. So the first
+/// test reads A and the second A and B, and the variable, labelled by A, can be
+/// assigned in the first round only. A round costs 13.
 #[test]
 fn a_later_test_adds_to_the_context() {
     let mut b = three_cells();
-    let both = b.region(0, 0..=0, A..=B);
-    let raises = [0, 1].map(|variable| b.raise(variable, both));
-    let zero = b.constant(0);
-    let one = b.constant(1);
-    let line = b.variable(0);
-    let sum = b.query(kind::SUM, 0, [zero, zero, zero, line]);
-    // The sum is 1 for A alone and 3 for A and B.
-    let three = b.constant(3);
-    let test = b.operator(kind::LESS, sum, three);
-    let seen = b.variable(1);
-    let more = b.operator(kind::ADD, seen, one);
-    let body_count = b.assign(1, more);
-    let body_line = b.assign(0, one);
-    let body = b.then(body_count, body_line);
-    let reset = b.assign(0, zero);
+    let region = b.region(0, 0..=0, A..=A);
+    let raise = b.raise(0, region);
+    let [zero, one, four] = [0, 1, 4].map(|k| b.constant(k));
+    let last = b.variable(0);
+    let sum = b.query(kind::SUM, 0, [zero, zero, zero, last]);
+    let test = b.operator(kind::LESS, sum, four);
+    let body = b.assign(0, one);
     let repeat = b.repeat(test, body);
-    let show = put_at(&mut b, 1, 0, 0, line);
-    program(&mut b, &[raises[0], raises[1], reset, repeat, show]);
-    // Assigned in the first round, so with the first test's label only; but
-    // the reset took the raise away, so that assignment is refused.
-    assert_eq!(stop(&b.book), (25, body_line));
+    program(&mut b, &[raise, repeat]);
+    assert_eq!(run_amply(&b.book).0, ended(25, body, 28, 0));
 }
 
 #[test]

@@ -1,4 +1,4 @@
--- `places::label_at` meets its contract: at word i the label's first i words are stored.
+-- `places::label_at` meets its contract: the label's words before the offset are stored.
 use mathlib.Core.Path.{_≡_, refl, sym, _∙_}
 use mathlib.Core.List.{List, _++_}
 use Prim.Native.Nat.{ℕ, _+_, _*_, _≤_, _<_, _-_}
@@ -13,10 +13,10 @@ use Rattle.places.proofs.label_at.Statement.{statement}
 use Rattle.places.proofs.label_at.Tie as tie
 
 abbrev Inv-loop : tie.InvT-loop
-Inv-loop labels place label₀ i₀ label i = (i ≤ 8) × (label ≡ take i (label-at labels place) ++ drop i label₀)
+Inv-loop labels place label₀ offset₀ label offset = (offset ≤ 8) × (label ≡ take offset (label-at labels place) ++ drop offset label₀)
 
 abbrev μ-loop : tie.MeasureT-loop
-μ-loop labels place label₀ i₀ label i = 8 - i
+μ-loop labels place label₀ offset₀ label offset = 8 - offset
 
 loop-holds : tie.Need-loop-holds Inv-loop μ-loop
 loop-holds c = (search needs, refl)
@@ -39,8 +39,8 @@ mul-label-3 c = search needs
 array-write-label : tie.Need-array-write-label Inv-loop μ-loop
 array-write-label c = search needs
 
-add-i : tie.Need-add-i Inv-loop μ-loop
-add-i c = search needs
+add-offset : tie.Need-add-offset Inv-loop μ-loop
+add-offset c = search needs
 
 loop-less : tie.Need-loop-less Inv-loop μ-loop
 loop-less c = search needs
@@ -48,7 +48,7 @@ loop-less c = search needs
 loop-again : tie.Need-loop-again Inv-loop μ-loop
 loop-again c =
     let s = c .before .before .before in
-    let i : ℕ = c .before .before .loop .i in
+    let i : ℕ = c .before .before .loop .offset in
     let l : List ℕ = s .args .labels .now in
     let lt : i < 8 = omega arith in
     let n : length (label-at l (s .args .place)) ≡ 8 = length-label l (s .args .place) (omega arith) in
@@ -59,7 +59,7 @@ returns c =
     let s = c .before .before in
     let l : List ℕ = s .args .labels .now in
     let n : length (label-at l (s .args .place)) ≡ 8 = length-label l (s .args .place) (omega arith) in
-    c .before .loop .inv .1 ∙ fill-end (label-at l (s .args .place)) (replicate 8 0) (c .before .loop .i) (omega arith) (omega arith)
+    c .before .loop .inv .1 ∙ fill-end (label-at l (s .args .place)) (replicate 8 0) (c .before .loop .offset) (omega arith) (omega arith)
 
 pub label-at-spec : {M : Type 1} → statement M
 label-at-spec =
@@ -74,7 +74,7 @@ label-at-spec =
     shared-slice-read-label
     mul-label-3
     array-write-label
-    add-i
+    add-offset
     loop-less
     loop-again
     returns)

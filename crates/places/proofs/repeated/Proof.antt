@@ -1,4 +1,4 @@
--- `places::repeated` meets its contract: at position i the word holds the pattern at the positions below i.
+-- `places::repeated` meets its contract: the word holds the pattern at the positions passed.
 use mathlib.Core.Path.{_≡_, refl, sym, ap, _∙_, subst}
 use mathlib.Core.Bool.{true, false}
 use mathlib.Core.Logic.{⊎-elim}
@@ -18,10 +18,10 @@ use Rattle.places.proofs.repeated.Reads as reads
 use Rattle.places.proofs.repeated.Lts as lts
 
 abbrev Inv-loop : tie.InvT-loop
-Inv-loop pattern width first last word₀ i₀ word i = (i ≤ 8) × (word ≡ repeated pattern width (record { first = first; last = last }) i)
+Inv-loop pattern width first last word₀ position₀ word position = (position ≤ 8) × (word ≡ repeated pattern width (record { first = first; last = last }) position)
 
 abbrev μ-loop : tie.MeasureT-loop
-μ-loop pattern width first last word₀ i₀ word i = 8 - i
+μ-loop pattern width first last word₀ position₀ word position = 8 - position
 
 loop-holds : tie.Need-loop-holds Inv-loop μ-loop
 unfolding repeated
@@ -34,23 +34,23 @@ fits-word width i h l = rw (add-one i) (mul-le-mul h l)
 mul-word : tie.Need-mul-word Inv-loop μ-loop
 mul-word c =
     let s = c .before .before .before in
-    omega (arith, fits-word (s .before .args .width) (s .loop .i) (s .before .pre .1) (omega arith))
+    omega (arith, fits-word (s .before .args .width) (s .loop .position) (s .before .pre .1) (omega arith))
 
 shl-word : tie.Need-shl-word Inv-loop μ-loop
 shl-word c =
     let s = c .before .before .before in
-    let l : s .loop .i ≤ 7 = omega arith in
+    let l : s .loop .position ≤ 7 = omega arith in
     omega (arith, mul-le-mul (s .before .pre .1) l)
 
 -- the pattern stored at position i
 next : (c : lts.Then2 reads.Pre reads.Post Inv-loop μ-loop)
     → let s = c .before .before .before in
     let a = s .before .args in
-    s .loop .word + a .pattern * 2 ^ (a .width * s .loop .i) % 2 ^ 64 ≡ repeated (a .pattern) (a .width) (a .range) (s .loop .i + 1)
+    s .loop .word + a .pattern * 2 ^ (a .width * s .loop .position) % 2 ^ 64 ≡ repeated (a .pattern) (a .width) (a .range) (s .loop .position + 1)
 next c =
     let s = c .before .before .before in
     let a = s .before .args in
-    let i : ℕ = s .loop .i in
+    let i : ℕ = s .loop .position in
     let room : a .width + a .width * i ≤ 64 = omega (arith, fits-word (a .width) i (s .before .pre .1) (omega arith), mul-add (a .width) i 1, mul-one (a .width)) in
     rw (shl-exact (a .width) (a .width * i) 64 (s .before .pre .0) room, s .loop .inv .1)
     (sym (repeated-turn (a .pattern) (a .width) (a .range) i true (rw (le-leb _ _ (c .before .if1 .taken), le-leb _ _ (c .if2 .taken)))))
@@ -58,10 +58,10 @@ next c =
 add-word : tie.Need-add-word Inv-loop μ-loop
 add-word c =
     let s = c .before .before .before in
-    record { fits = rw (next c) (lt-of-lt-of-le (repeated-lt (s .before .args .pattern) (s .before .args .width) _ (s .loop .i + 1) (s .before .pre .0)) (pow-mono (fits-word (s .before .args .width) (s .loop .i) (s .before .pre .1) (omega arith)))) }
+    record { fits = rw (next c) (lt-of-lt-of-le (repeated-lt (s .before .args .pattern) (s .before .args .width) _ (s .loop .position + 1) (s .before .pre .0)) (pow-mono (fits-word (s .before .args .width) (s .loop .position) (s .before .pre .1) (omega arith)))) }
 
-add-i : tie.Need-add-i Inv-loop μ-loop
-add-i c = search needs
+add-position : tie.Need-add-position Inv-loop μ-loop
+add-position c = search needs
 
 loop-less : tie.Need-loop-less Inv-loop μ-loop
 loop-less c = search needs
@@ -70,18 +70,18 @@ loop-less c = search needs
 stays : (c : lts.Joined1 reads.Pre reads.Post Inv-loop μ-loop)
     → let s = c .before .before in
     let a = s .before .args in
-    in-range (a .range) (s .loop .i) ≡ false
-    → s .loop .word ≡ repeated (a .pattern) (a .width) (a .range) (s .loop .i + 1)
+    in-range (a .range) (s .loop .position) ≡ false
+    → s .loop .word ≡ repeated (a .pattern) (a .width) (a .range) (s .loop .position + 1)
 stays c e =
     let s = c .before .before in
     let a = s .before .args in
-    s .loop .inv .1 ∙ sym (repeated-turn (a .pattern) (a .width) (a .range) (s .loop .i) false e ∙ add-zero _)
+    s .loop .inv .1 ∙ sym (repeated-turn (a .pattern) (a .width) (a .range) (s .loop .position) false e ∙ add-zero _)
 
 loop-again : tie.Need-loop-again Inv-loop μ-loop
 loop-again c =
     let s = c .before .before in
     let a = s .before .args in
-    let i : ℕ = s .loop .i in (
+    let i : ℕ = s .loop .position in (
       omega arith,
       ⊎-elim
           (λ w. w .2 ∙ next (record { before = record { before = c .before; if1 = w .0 }; if2 = w .1 }))
@@ -93,7 +93,7 @@ loop-again c =
 
 returns : tie.Need-returns Inv-loop μ-loop
 returns c =
-    let e : c .before .loop .i ≡ 8 = omega arith in
+    let e : c .before .loop .position ≡ 8 = omega arith in
     rw (← e) (c .before .loop .inv .1)
 
 pub repeated-spec : {M : Type 1} → statement M
@@ -106,7 +106,7 @@ repeated-spec =
     mul-word
     shl-word
     add-word
-    add-i
+    add-position
     loop-less
     loop-again
     returns)

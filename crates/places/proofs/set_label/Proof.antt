@@ -1,4 +1,4 @@
--- `places::set_label` meets its contract: at word i the label's first i words are stored in their place.
+-- `places::set_label` meets its contract: the label's words before the offset are stored in their place.
 use mathlib.Core.Path.{_≡_, _∙_}
 use mathlib.Core.List.{List}
 use Prim.Native.Nat.{ℕ, _*_, _≤_, _-_}
@@ -11,10 +11,10 @@ use Rattle.places.proofs.set_label.Statement.{statement}
 use Rattle.places.proofs.set_label.Tie as tie
 
 abbrev Inv-loop : tie.InvT-loop
-Inv-loop labels₀ place label i₀ labels i = (i ≤ 8) × (labels ≡ paste labels₀ (8 * place) label i) × (length labels ≡ 4096)
+Inv-loop labels₀ place label offset₀ labels offset = (offset ≤ 8) × (labels ≡ paste labels₀ (8 * place) label offset) × (length labels ≡ 4096)
 
 abbrev μ-loop : tie.MeasureT-loop
-μ-loop labels₀ place label i₀ labels i = 8 - i
+μ-loop labels₀ place label offset₀ labels offset = 8 - offset
 
 loop-holds : tie.Need-loop-holds Inv-loop μ-loop
 loop-holds c = (search needs, paste-zero (c .args .labels .now) (8 * c .args .place) (c .args .t3), c .pre .1)
@@ -37,8 +37,8 @@ mul-labels-3 c = search needs
 slice-write-labels : tie.Need-slice-write-labels Inv-loop μ-loop
 slice-write-labels c = search needs
 
-add-i : tie.Need-add-i Inv-loop μ-loop
-add-i c = search needs
+add-offset : tie.Need-add-offset Inv-loop μ-loop
+add-offset c = search needs
 
 loop-less : tie.Need-loop-less Inv-loop μ-loop
 loop-less c = search needs
@@ -47,7 +47,7 @@ loop-again : tie.Need-loop-again Inv-loop μ-loop
 loop-again c =
     let s = c .before .before in
     let n : length (s .args .t3) ≡ 8 = s .good .1 .1 .0 .1 .0 .1 in
-    let i : ℕ = c .before .loop .i in (
+    let i : ℕ = c .before .loop .offset in (
       omega arith,
       store-turn (s .args .labels .now) (s .args .t3) _ (8 * s .args .place) i (omega arith) (omega arith) (c .before .loop .inv .1),
       simp length-set (c .before .loop .inv .2),
@@ -60,7 +60,7 @@ returns : tie.Need-returns Inv-loop μ-loop
 returns c =
     let s = c .before .before in
     let n : length (s .args .t3) ≡ 8 = s .good .1 .1 .0 .1 .0 .1 in
-    store-end (s .args .labels .now) (s .args .t3) _ (8 * s .args .place) (c .before .loop .i) (omega arith) (c .before .loop .inv .1) ∙ rw n
+    store-end (s .args .labels .now) (s .args .t3) _ (8 * s .args .place) (c .before .loop .offset) (omega arith) (c .before .loop .inv .1) ∙ rw n
 
 pub set-label-spec : {M : Type 1} → statement M
 set-label-spec =
@@ -75,7 +75,7 @@ set-label-spec =
     add-labels
     mul-labels-3
     slice-write-labels
-    add-i
+    add-offset
     loop-less
     loop-again
     same-length

@@ -1,11 +1,11 @@
--- `places::union` meets its contract: at word i the first i words of the union are stored.
+-- `places::union` meets its contract: the first i words of the union are stored.
 use mathlib.Core.Path.{_≡_, refl, sym, _∙_}
 use mathlib.Core.List.{List, _++_}
 use Prim.Native.Nat.{ℕ, _≤_, _-_}
 use lib.ListN.{length, take, drop, replicate}
 use Rattle.places.specs.Sets.{union}
-use Rattle.places.proofs.Sets.{length-union}
-use Rattle.places.proofs.Loops.{fill-turn, fill-end, union-word}
+use Rattle.places.proofs.Sets.{length-union, union-word}
+use Rattle.places.proofs.Loops.{fill-turn, fill-end}
 use borrow.Author.Needs.{needs}
 use native.Mathlib.Omega.{arith}
 use Rattle.places.proofs.union.Statement.{statement}
@@ -52,7 +52,7 @@ loop-again c =
     let b : List ℕ = s .args .t2 in
     let la : length a ≡ 8 = s .good .0 .1 .0 .1 in
     let lb : length b ≡ 8 = s .good .1 .0 .1 .0 .1 in
-    (omega arith, fill-turn (union a b) _ _ i _ (omega (arith, length-union a b)) (omega arith) (sym (union-word a b i (omega arith) (omega arith))) (c .before .loop .inv .1))
+    (omega arith, fill-turn (union a b) _ _ i _ (omega (arith, length-union a b)) (omega arith) (sym (union-word a b i)) (c .before .loop .inv .1))
 
 returns : tie.Need-returns Inv-loop μ-loop
 returns c =

@@ -1,4 +1,4 @@
--- `places::within` meets its contract: what is left to test from word i on decides the whole.
+-- `places::within` meets its contract: what is left to test from a word on decides the whole.
 use mathlib.Core.Path.{_≡_, refl, sym, _∙_}
 use mathlib.Core.Bool.{_&&_}
 use mathlib.Core.List.{List}
@@ -15,10 +15,10 @@ use Rattle.places.proofs.within.Statement.{statement}
 use Rattle.places.proofs.within.Tie as tie
 
 abbrev Inv-loop : tie.InvT-loop
-Inv-loop a b i₀ i = (i ≤ 8) × (within (drop i a) (drop i b) ≡ within a b)
+Inv-loop a b word₀ word = (word ≤ 8) × (within (drop word a) (drop word b) ≡ within a b)
 
 abbrev μ-loop : tie.MeasureT-loop
-μ-loop a b i₀ i = 8 - i
+μ-loop a b word₀ word = 8 - word
 
 loop-holds : tie.Need-loop-holds Inv-loop μ-loop
 loop-holds c = (search needs, refl)
@@ -46,18 +46,18 @@ turn : (c : tie.In-loop Inv-loop μ-loop)
     → let s = c .before .before in
     let a : List ℕ = s .args .t1 in
     let b : List ℕ = s .args .t2 in
-    let i : ℕ = c .before .loop .i in
+    let i : ℕ = c .before .loop .word in
     within a b ≡ eqb (bitOr (getD a i 0) (getD b i 0)) (getD b i 0) && within (drop (i + 1) a) (drop (i + 1) b)
 turn c =
     let s = c .before .before in
     sym (c .before .loop .inv .1)
-    ∙ within-turn (s .args .t1) (s .args .t2) (c .before .loop .i) (omega (arith, s .good .0 .1 .0 .1)) (omega (arith, s .good .1 .0 .1 .0 .1))
+    ∙ within-turn (s .args .t1) (s .args .t2) (c .before .loop .word) (omega (arith, s .good .0 .1 .0 .1)) (omega (arith, s .good .1 .0 .1 .0 .1))
 
 returns : tie.Need-returns Inv-loop μ-loop
 returns c = sym (turn (c .before) ∙ rw (ne-eqb _ _ (c .if1 .taken)))
 
-add-i : tie.Need-add-i Inv-loop μ-loop
-add-i c = search needs
+add-word : tie.Need-add-word Inv-loop μ-loop
+add-word c = search needs
 
 loop-less : tie.Need-loop-less Inv-loop μ-loop
 loop-less c = search needs
@@ -68,7 +68,7 @@ loop-again c = (omega arith, sym (turn (c .before) ∙ rw (eq-eqb _ _ (c .if1 .l
 returns-2 : tie.Need-returns-2 Inv-loop μ-loop
 returns-2 c =
     let s = c .before .before in
-    let i : ℕ = c .before .loop .i in
+    let i : ℕ = c .before .loop .word in
     sym (within-end (s .args .t1) (drop i (s .args .t2)) i (omega (arith, s .good .0 .1 .0 .1))) ∙ c .before .loop .inv .1
 
 pub within-spec : {M : Type 1} → statement M
@@ -85,7 +85,7 @@ within-spec =
     mul-if1-3
     array-read-if1-3
     returns
-    add-i
+    add-word
     loop-less
     loop-again
     returns-2)
