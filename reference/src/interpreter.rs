@@ -35,6 +35,16 @@ struct Labelled {
     label: Places,
 }
 
+impl Labelled {
+    /// A value that depends on no cell.
+    fn unlabelled(value: i32) -> Labelled {
+        Labelled {
+            value,
+            label: Places::EMPTY,
+        }
+    }
+}
+
 /// What belongs to one program or one firing of a trigger.
 struct Scope {
     user: u8,
@@ -115,14 +125,10 @@ impl<'a> Interpreter<'a> {
     /// Runs every program in order. Cells, labels, rights, cost and trace carry
     /// over from one to the next; variables do not.
     pub(crate) fn programs(&mut self) -> Result<(), Stop> {
-        let unset = Labelled {
-            value: 0,
-            label: Places::EMPTY,
-        };
         for program in &self.book.programs {
             let mut scope = Scope {
                 user: program.user,
-                variables: [unset; 16],
+                variables: [Labelled::unlabelled(0); 16],
                 first_trigger: 0,
             };
             self.execute(program.root, &Places::EMPTY, &mut scope)?;
@@ -145,10 +151,7 @@ impl<'a> Interpreter<'a> {
     fn evaluate(&mut self, number: u16, scope: &Scope) -> Result<Labelled, Stop> {
         let node = self.enter(number)?;
         match node.kind {
-            kind::CONSTANT => Ok(Labelled {
-                value: node.k,
-                label: Places::EMPTY,
-            }),
+            kind::CONSTANT => Ok(Labelled::unlabelled(node.k)),
             kind::VARIABLE => Ok(scope.variables[usize::from(node.p)]),
             kind::ADD | kind::SUBTRACT | kind::EQUAL | kind::LESS => {
                 self.operate(number, &node, scope)
@@ -185,8 +188,8 @@ impl<'a> Interpreter<'a> {
             for line in clip(line_first.value, line_last.value) {
                 let place = place(node.p, owner, line);
                 // That a cell is absent tells something too, so its label counts.
-                label.add_words(self.cell_label(place));
-                if self.memory.presence[place / 64] >> (place % 64) & 1 == 1 {
+                label.add(&self.cell_label(place));
+                if self.is_present(place) {
                     let amount = i64::from(self.memory.amounts[place]);
                     result = Some(gather(node.kind, result, amount));
                 }
@@ -346,11 +349,7 @@ impl<'a> Interpreter<'a> {
         let (event, amount) = if node.kind == kind::PUT {
             (PUT_EVENT, self.evaluate(node.c, scope)?)
         } else {
-            let nothing = Labelled {
-                value: 0,
-                label: Places::EMPTY,
-            };
-            (CLEAR_EVENT, nothing)
+            (CLEAR_EVENT, Labelled::unlabelled(0))
         };
         let keys = 0..=7;
         let key_exists = keys.contains(&owner.value) && keys.contains(&line.value);
@@ -366,9 +365,7 @@ impl<'a> Interpreter<'a> {
         let place = write.place();
         let allowed = self.writable[usize::from(scope.user)].holds(place);
         require(allowed, 24, number)?;
-        let mut old_label = Places::EMPTY;
-        old_label.add_words(self.cell_label(place));
-        self.require_flow(&write.context, &old_label, 26, number)?;
+        self.require_flow(&write.context, &self.cell_label(place), 26, number)?;
         Ok(write)
     }
 
@@ -425,8 +422,12 @@ impl<'a> Interpreter<'a> {
         Ok(())
     }
 
-    fn cell_label(&self, place: usize) -> &[u64] {
-        &self.memory.labels[8 * place..8 * place + 8]
+    fn is_present(&self, place: usize) -> bool {
+        self.memory.presence[place / 64] >> (place % 64) & 1 == 1
+    }
+
+    fn cell_label(&self, place: usize) -> Places {
+        Places::from_words(&self.memory.labels[8 * place..8 * place + 8])
     }
 
     fn region_places(&self, region: u16) -> Places {

@@ -21,6 +21,13 @@ impl Places {
         set
     }
 
+    /// The set that is stored as these eight words.
+    pub fn from_words(words: &[u64]) -> Places {
+        let mut set = Places::EMPTY;
+        set.0.copy_from_slice(words);
+        set
+    }
+
     /// Every place of a region whose ends are 0–7.
     pub fn of_region(region: &Region) -> Places {
         let mut set = Places::EMPTY;
@@ -49,12 +56,7 @@ impl Places {
     }
 
     pub fn add(&mut self, other: &Places) {
-        self.add_words(&other.0);
-    }
-
-    /// Adds a set that is stored as eight words.
-    pub fn add_words(&mut self, words: &[u64]) {
-        for (own, more) in self.0.iter_mut().zip(words) {
+        for (own, more) in self.0.iter_mut().zip(&other.0) {
             *own |= more;
         }
     }

@@ -1,5 +1,5 @@
 -- One turn of a loop over words, and its end.
-use mathlib.Core.Path.{_≡_, refl, sym, ap, _∙_}
+use mathlib.Core.Path.{_≡_, refl, ap, _∙_}
 use mathlib.Core.List.{List, [], _∷_, _++_, append-nil}
 use mathlib.Core.Bool.{_&&_, true}
 use Prim.Native.Nat.{ℕ, zero, suc, _+_, _≤_, _<_}
@@ -14,18 +14,27 @@ use Rattle.places.specs.Sets.{within}
 
 -- ---- a loop that fills a list from the front with another, one store a turn
 
-fill : (s d : List ℕ) (i : ℕ) → i < length s → i < length d → set (take i s ++ drop i d) i (getD s i 0) ≡ take (suc i) s ++ drop (suc i) d
-fill [] d i h k = absurd (not-suc-le-zero h)
-fill (x ∷ s) [] i h k = absurd (not-suc-le-zero k)
-fill (x ∷ s) (y ∷ d) zero h k = refl
-fill (x ∷ s) (y ∷ d) (suc i) h k = ap (λ (l : List ℕ). x ∷ l) (fill s d i (le-of-suc-le-suc h) (le-of-suc-le-suc k))
+-- r holds the first i words of s, and from there on those of d; both have n
+pub record Filled (n : ℕ) (s d r : List ℕ) (i : ℕ) : Type 0 where
+  pub at : i ≤ n
+  pub words : r ≡ take i s ++ drop i d
 
--- r holds the first i of s; v, the next of s, is stored
-pub fill-turn : (s d r : List ℕ) (i v : ℕ) → i < length s → i < length d → v ≡ getD s i 0 → r ≡ take i s ++ drop i d → set r i v ≡ take (i + 1) s ++ drop (i + 1) d
-fill-turn s d r i v h k e q = rw (q, e, add-one) (fill s d i h k)
+store : (s d : List ℕ) (i : ℕ) → i < length s → i < length d → set (take i s ++ drop i d) i (getD s i 0) ≡ take (suc i) s ++ drop (suc i) d
+store [] d i h k = absurd (not-suc-le-zero h)
+store (x ∷ s) [] i h k = absurd (not-suc-le-zero k)
+store (x ∷ s) (y ∷ d) zero h k = refl
+store (x ∷ s) (y ∷ d) (suc i) h k = ap (λ (l : List ℕ). x ∷ l) (store s d i (le-of-suc-le-suc h) (le-of-suc-le-suc k))
 
-pub fill-end : (s d : List ℕ) (i : ℕ) → length s ≤ i → length d ≤ i → take i s ++ drop i d ≡ s
-fill-end s d i h k = rw (take-all i s, drop-of-length-le d) (append-nil s)
+-- the next word of s is stored
+pub filled-turn : {n i v : ℕ} {s d r : List ℕ} → length s ≡ n → length d ≡ n → i < n → v ≡ getD s i 0 → Filled n s d r i → Filled n s d (set r i v) (i + 1)
+filled-turn {n} {i} {v} {s} {d} {r} p q h e f =
+    record { at = omega arith; words = rw (f .words, e, add-one) (store s d i (omega arith) (omega arith)) }
+
+pub filled-end : {n i : ℕ} {s d r : List ℕ} → length s ≡ n → length d ≡ n → n ≤ i → Filled n s d r i → r ≡ s
+filled-end {n} {i} {s} {d} p q h f =
+    let l : length s ≤ i = omega arith in
+    let k : length d ≤ i = omega arith in
+    f .words ∙ rw (take-all i s l, drop-of-length-le d k) (append-nil s)
 
 -- ---- a loop that stores a list into a part of another
 

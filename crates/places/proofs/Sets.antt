@@ -1,20 +1,20 @@
 -- The laws of sets of places, for any number of words. All go by one meaning of `⊆`: bit by bit, the first set's is at most the second's.
-use mathlib.Core.Path.{_≡_, refl, sym, ap, ap₂, _∙_, subst}
+use mathlib.Core.Path.{_≡_, refl, sym, ap, _∙_}
 use mathlib.Core.List.{List, [], _∷_}
-use mathlib.Core.Bool.{Bool, true, false, _&&_, _||_, not, cond, false≢true}
+use mathlib.Core.Bool.{Bool, true, false, _&&_, _||_, not, false≢true}
 use mathlib.Core.Logic.{_↔_}
 use native.Mathlib.Decide.{decLt}
 use Prim.Native.Nat.{ℕ, zero, suc, _+_, _-_, _*_, _/_, _%_, _^_, _≤_, _<_, max, zero-le}
-use native.Mathlib.Nat.{le-refl, le-trans, le-antisymm, le-max-left, le-max-right, max-le, lt-of-lt-of-le, zero-max, max-zero, suc-max-suc, zero-lt-suc, not-suc-le-zero, le-of-suc-le-suc, zero-div, lt-of-not-le}
+use native.Mathlib.Nat.{le-refl, le-trans, le-antisymm, le-max-left, le-max-right, max-le, lt-of-lt-of-le, zero-max, max-zero, suc-max-suc, le-of-suc-le-suc, lt-of-not-le}
 use native.Mathlib.Omega.{arith}
 use lib.Pow.{pow-mono, pow-pos}
-use lib.Bits.{bitOr, or-zero-r, or-lt, bitAnd, bitXor, and-lt, xor-lt}
+use lib.Bits.{bitOr, or-zero-r, or-lt, bitAnd, and-lt, xor-lt}
 use lib.Dec.{eqb, ltb}
-use lib.ListN.{length, getD, replicate, length-replicate, List·getD-eq-default}
+use lib.ListN.{length, getD, List·getD-eq-default}
 use lib.Seq.{ext-getD}
 use borrow.Author.Tests.{eqb-true, eq-eqb, lt-ltb, le-ltb}
 use Rattle.places.specs.Sets.{Words, bit, has, empty, word-of, set-of, single, word-by-word, union, without, difference, within, _⊆_}
-use Rattle.places.proofs.Bits.{bit-lt, bit-zero, bit-high, bit-or, bit-without, same-bits, or-within, within-or, or-set, without-set, yes-no, yes-no-set, word-of-lt, bit-word-of}
+use Rattle.places.proofs.Bits.{bit-lt, bit-zero, bit-high, bit-or, bit-without, same-bits, or-within, within-or, or-set, without-set, yes-no-set, word-of-lt, bit-word-of}
 
 -- tests that hold in the same cases are equal
 same-ltb : (a b c d : ℕ) → (a < b) ↔ (c < d) → ltb a b ≡ ltb c d
@@ -119,13 +119,14 @@ pub difference-word : (a b : List ℕ) (w : ℕ) → getD (difference a b) w 0 �
 unfolding difference
 difference-word a b w = word-by-word-at without refl a b w
 
-pub length-union : (a b : List ℕ) → length (union a b) ≡ max (length a) (length b)
+-- sets of equally many words
+pub length-union : {n : ℕ} (a b : List ℕ) → length a ≡ n → length b ≡ n → length (union a b) ≡ n
 unfolding union
-length-union a b = length-word-by-word bitOr a b
+length-union a b p q = omega (arith, length-word-by-word bitOr a b)
 
-pub length-difference : (a b : List ℕ) → length (difference a b) ≡ max (length a) (length b)
+pub length-difference : {n : ℕ} (a b : List ℕ) → length a ≡ n → length b ≡ n → length (difference a b) ≡ n
 unfolding difference
-length-difference a b = length-word-by-word without a b
+length-difference a b p q = omega (arith, length-word-by-word without a b)
 
 -- ---- union: the least upper bound
 

@@ -1,17 +1,17 @@
--- Sets with members in one word only: a place alone, a region.
-use mathlib.Core.Path.{_≡_, refl, sym, ap, ap₂, _∙_}
-use mathlib.Core.List.{List, [], _∷_}
+-- Sets with members in one word only: a place alone, and a region.
+use mathlib.Core.Path.{_≡_, refl, ap, ap₂, _∙_}
+use mathlib.Core.List.{List, _∷_}
 use mathlib.Core.Bool.{Bool, true, false, _&&_, cond}
-use Prim.Native.Nat.{ℕ, zero, suc, _+_, _-_, _*_, _/_, _%_, _^_, _≤_, _<_}
+use Prim.Native.Nat.{ℕ, zero, suc, _+_, _*_, _/_, _%_, _^_, _≤_, _<_}
 use mathlib.Core.Logic.{⊎-elim}
 use native.Mathlib.Decide.{ℕ-discrete}
-use native.Mathlib.Nat.{not-suc-le-zero, le-of-suc-le-suc, eq-or-lt-of-le, add-zero, add-suc, add-assoc, add-comm, add-mul, mul-zero, mul-suc, suc-mul, one-mul, mul-le-mul-right}
+use native.Mathlib.Nat.{not-suc-le-zero, le-of-suc-le-suc, eq-or-lt-of-le, add-zero, add-suc, add-comm, add-mul, mul-zero, mul-suc, suc-mul, one-mul, mul-le-mul-right}
 use native.Mathlib.Numerals.{add-one}
 use native.Mathlib.Omega.{arith}
-use lib.Dec.{eqb, ltb, eqb·suc-suc, lit<}
+use lib.Dec.{eqb, ltb, leb, eqb·suc-suc, lit<}
 use lib.Pow.{pow-add}
-use lib.ListN.{length, set, replicate}
-use borrow.Author.Tests.{eq-eqb, ne-eqb}
+use lib.ListN.{length, set}
+use borrow.Author.Tests.{eq-eqb, ne-eqb, le-leb, lt-leb}
 use Rattle.places.specs.declared.Range.{Range}
 use Rattle.places.specs.declared.Region.{Region}
 use Rattle.places.specs.Sets.{has, empty, word-of, set-of, single}
@@ -103,6 +103,21 @@ single-word n p h =
         go (yes e) (yes r) = rw (eq-eqb q p (omega arith), eq-eqb (q / 64) (p / 64) e, eq-eqb (q % 64) (p % 64) r)
         go (yes e) (no r) = rw (ne-eqb q p (λ x. r (ap (λ (m : ℕ). m % 64) x)), eq-eqb (q / 64) (p / 64) e, ne-eqb (q % 64) (p % 64) r)
         go (no e) r = rw (ne-eqb q p (λ x. e (ap (λ (m : ℕ). m / 64) x)), ne-eqb (q / 64) (p / 64) e)
+
+-- ---- ranges
+
+pub in-range-yes : (r : Range) (n : ℕ) → r .first ≤ n → n ≤ r .last → in-range r n ≡ true
+in-range-yes r n h l = rw (le-leb (r .first) n h, le-leb n (r .last) l)
+
+pub below-range : (r : Range) (n : ℕ) → n < r .first → in-range r n ≡ false
+below-range r n h = rw (lt-leb (r .first) n h)
+
+pub above-range : (r : Range) (n : ℕ) → r .last < n → in-range r n ≡ false
+above-range r n h = rw (lt-leb n (r .last) h) (and-no (leb (r .first) n))
+  where
+    and-no : (b : Bool) → b && false ≡ false
+    and-no true = refl
+    and-no false = refl
 
 -- ---- a region
 

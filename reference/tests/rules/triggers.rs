@@ -1,5 +1,6 @@
 //! Triggers: when they run, with which variables, labels and rights.
 
+use crate::common::{ended, run_with};
 use crate::{
     amount_of, cell, clear_at, finish, program, put_at, run_amply, stop, stop_of, three_cells,
     when, A, B, C,
@@ -77,13 +78,13 @@ fn a_present_cell_cleared_runs_the_trigger_too() {
 
 /// A put or clear of (1,2,5) in A's context, with a key labelled by B and, for
 /// put, an amount labelled by C. A trigger on it puts its variables 0–3 in the
-/// cells (2,0,0) to (2,0,3).
+/// cells (2,0,0) to (2,0,3), and the constant 5 in (2,0,4).
 fn variables_seen(put: bool) -> Memory {
     let mut b = three_cells();
     let [left, right] = [A, B].map(|line| amount_of(&mut b, 0, 0, line));
     let both = b.operator(kind::ADD, left, right);
     let mut commands = vec![put_at(&mut b, 1, 2, 5, both)];
-    commands.extend([0, 1, 2, 3].map(|line| put_at(&mut b, 2, 0, line, both)));
+    commands.extend([0, 1, 2, 3, 4].map(|line| put_at(&mut b, 2, 0, line, both)));
 
     let owner = amount_of(&mut b, 0, 0, B);
     let line = b.constant(5);
@@ -97,14 +98,12 @@ fn variables_seen(put: bool) -> Memory {
     commands.push(when(&mut b, condition, write));
     program(&mut b, &commands);
 
-    let body = [0, 1, 2, 3]
-        .map(|p| {
-            let variable = b.variable(p);
-            put_at(&mut b, 2, 0, p, variable)
-        })
-        .into_iter()
-        .reduce(|first, second| b.then(first, second))
-        .unwrap();
+    let mut body = put_at(&mut b, 2, 0, 4, line);
+    for p in 0..4 {
+        let variable = b.variable(p);
+        let show = put_at(&mut b, 2, 0, p, variable);
+        body = b.then(body, show);
+    }
     if put {
         b.put_trigger(1, 0, body);
     } else {
@@ -121,6 +120,7 @@ fn a_put_trigger_sees_owner_line_and_amount() {
     assert_eq!(cell(&memory, 2, 0, 1), (Some(5), vec![0, 1]));
     assert_eq!(cell(&memory, 2, 0, 2), (Some(33), vec![0, 1, 2]));
     assert_eq!(cell(&memory, 2, 0, 3), (Some(0), vec![0, 1]));
+    assert_eq!(cell(&memory, 2, 0, 4), (Some(5), vec![0, 1]));
 }
 
 #[test]
@@ -131,6 +131,7 @@ fn a_clear_trigger_sees_amount_0() {
     assert_eq!(cell(&memory, 2, 0, 1), (Some(5), vec![0, 1]));
     assert_eq!(cell(&memory, 2, 0, 2), (Some(0), vec![0, 1]));
     assert_eq!(cell(&memory, 2, 0, 3), (Some(0), vec![0, 1]));
+    assert_eq!(cell(&memory, 2, 0, 4), (Some(5), vec![0, 1]));
 }
 
 /// Puts 9 at (0,0,v) with v the amount of A, which is 1: so at B, whose label
@@ -147,20 +148,18 @@ fn secret_key_write(b: &mut Builder, body: u16) -> u16 {
     put
 }
 
+/// The trigger puts a constant. It passes when it runs for the put that gives
+/// B its label, and stops when it runs for the put with the secret key.
 #[test]
 fn a_trigger_runs_in_the_keys_label() {
     let mut b = three_cells();
-    let [seven, eight] = [7, 8].map(|k| b.constant(k));
-    let variable = b.variable(2);
-    let is_nine = b.operator(kind::LESS, eight, variable);
-    let body_put = put_at(&mut b, 2, 0, 0, seven);
-    let body = when(&mut b, is_nine, body_put);
+    let seven = b.constant(7);
+    let body = put_at(&mut b, 2, 0, 0, seven);
     secret_key_write(&mut b, body);
     let (answer, memory) = run_amply(&b.book);
-    // The cell (2,0,0) is labelled by its own place, so A's label stops it.
-    assert_eq!(stop_of(answer), (26, body_put));
+    assert_eq!(stop_of(answer), (26, body));
     assert_eq!(cell(&memory, 0, 0, B), (Some(9), vec![0]));
-    assert_eq!(cell(&memory, 2, 0, 0), (None, vec![128]));
+    assert_eq!(cell(&memory, 2, 0, 0), (Some(7), vec![]));
 }
 
 #[test]
@@ -254,6 +253,25 @@ fn a_triggers_write_runs_no_lower_trigger() {
     let memory = finish(&b.book);
     assert_eq!(cell(&memory, 3, 0, 0).0, Some(1));
     assert_eq!(cell(&memory, 4, 0, 0).0, None);
+}
+
+#[test]
+fn a_triggers_write_does_not_run_itself() {
+    let mut b = three_cells();
+    let skip = b.skip();
+    b.put_trigger(1, 0, skip);
+    let one = b.constant(1);
+    let note = count(&mut b);
+    let own = put_at(&mut b, 1, 0, 1, one);
+    let body = b.then(note, own);
+    b.put_trigger(1, 0, body);
+    let put = put_at(&mut b, 1, 0, 0, one);
+    program(&mut b, &[put]);
+    // The put costs 4, the skip 1 and the body 1 + 13 + 4.
+    let (answer, memory) = run_with(&b.book, 200, 0);
+    assert_eq!(answer, ended(0, 0, 23, 0));
+    assert_eq!(counted(&memory), Some(1));
+    assert_eq!(cell(&memory, 1, 0, 1).0, Some(1));
 }
 
 #[test]

@@ -1,25 +1,24 @@
 -- `places::label_at` meets its contract: the label's words before the offset are stored.
-use mathlib.Core.Path.{_≡_, refl, sym, _∙_}
-use mathlib.Core.List.{List, _++_}
-use Prim.Native.Nat.{ℕ, _+_, _*_, _≤_, _<_, _-_}
-use lib.ListN.{length, take, drop, replicate}
+use mathlib.Core.Path.{_≡_, refl, sym}
+use Prim.Native.Nat.{_<_, _-_}
+use lib.ListN.{length}
 use lib.Seq.{getD-take, getD-drop}
 use Rattle.places.specs.Labels.{label-at}
 use Rattle.places.proofs.Labels.{length-label}
-use Rattle.places.proofs.Loops.{fill-turn, fill-end}
+use Rattle.places.proofs.Loops.{Filled, filled-turn, filled-end}
 use borrow.Author.Needs.{needs}
 use native.Mathlib.Omega.{arith}
 use Rattle.places.proofs.label_at.Statement.{statement}
 use Rattle.places.proofs.label_at.Tie as tie
 
 abbrev Inv-loop : tie.InvT-loop
-Inv-loop labels place label₀ offset₀ label offset = (offset ≤ 8) × (label ≡ take offset (label-at labels place) ++ drop offset label₀)
+Inv-loop labels place label₀ offset₀ label offset = Filled 8 (label-at labels place) label₀ label offset
 
 abbrev μ-loop : tie.MeasureT-loop
 μ-loop labels place label₀ offset₀ label offset = 8 - offset
 
 loop-holds : tie.Need-loop-holds Inv-loop μ-loop
-loop-holds c = (search needs, refl)
+loop-holds c = record { at = search needs; words = refl }
 
 mul-label : tie.Need-mul-label Inv-loop μ-loop
 mul-label c = search needs
@@ -45,21 +44,17 @@ add-offset c = search needs
 loop-less : tie.Need-loop-less Inv-loop μ-loop
 loop-less c = search needs
 
+eight : (s : tie.Start Inv-loop μ-loop) → length (label-at (s .args .labels .now) (s .args .place)) ≡ 8
+eight s = length-label (s .args .labels .now) (s .args .place) (omega arith)
+
 loop-again : tie.Need-loop-again Inv-loop μ-loop
 loop-again c =
     let s = c .before .before .before in
-    let i : ℕ = c .before .before .loop .offset in
-    let l : List ℕ = s .args .labels .now in
-    let lt : i < 8 = omega arith in
-    let n : length (label-at l (s .args .place)) ≡ 8 = length-label l (s .args .place) (omega arith) in
-    (omega arith, fill-turn (label-at l (s .args .place)) _ _ i _ (omega arith) (omega arith) (sym (rw (getD-take, getD-drop))) (c .before .before .loop .inv .1))
+    let lt : c .before .before .loop .offset < 8 = omega arith in
+    filled-turn (eight s) refl lt (sym (rw (getD-take, getD-drop))) (c .before .before .loop .inv)
 
 returns : tie.Need-returns Inv-loop μ-loop
-returns c =
-    let s = c .before .before in
-    let l : List ℕ = s .args .labels .now in
-    let n : length (label-at l (s .args .place)) ≡ 8 = length-label l (s .args .place) (omega arith) in
-    c .before .loop .inv .1 ∙ fill-end (label-at l (s .args .place)) (replicate 8 0) (c .before .loop .offset) (omega arith) (omega arith)
+returns c = filled-end (eight (c .before .before)) refl (omega arith) (c .before .loop .inv)
 
 pub label-at-spec : {M : Type 1} → statement M
 label-at-spec =

@@ -1,6 +1,6 @@
 -- `places::region_set` meets its contract: the row of lines, then a row for each owner, in the word of the table.
 use mathlib.Core.Path.{_≡_, sym, ap, _∙_}
-use Prim.Native.Nat.{ℕ, _^_, _<_}
+use Prim.Native.Nat.{ℕ}
 use lib.Dec.{lit≤}
 use lib.ListN.{set, replicate}
 use Rattle.places.specs.declared.Region.{Region}

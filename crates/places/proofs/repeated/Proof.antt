@@ -1,15 +1,13 @@
 -- `places::repeated` meets its contract: the word holds the pattern at the positions passed.
-use mathlib.Core.Path.{_≡_, refl, sym, ap, _∙_, subst}
+use mathlib.Core.Path.{_≡_, refl, sym, _∙_}
 use mathlib.Core.Bool.{true, false}
 use mathlib.Core.Logic.{⊎-elim}
-use Prim.Native.Nat.{ℕ, suc, _+_, _*_, _%_, _^_, _≤_, _<_, _-_}
+use Prim.Native.Nat.{ℕ, _+_, _*_, _%_, _^_, _≤_, _<_, _-_}
 use native.Mathlib.Nat.{mul-add, mul-one, mul-le-mul, lt-of-lt-of-le, add-zero}
 use native.Mathlib.Numerals.{add-one}
 use lib.Pow.{shl-exact, pow-mono}
-use borrow.Author.Tests.{le-leb, lt-leb}
-use Rattle.places.specs.declared.Range.{Range}
 use Rattle.places.specs.Regions.{in-range, repeated}
-use Rattle.places.proofs.Shapes.{repeated-lt, repeated-turn}
+use Rattle.places.proofs.Shapes.{in-range-yes, below-range, above-range, repeated-lt, repeated-turn}
 use borrow.Author.Needs.{needs}
 use native.Mathlib.Omega.{arith}
 use Rattle.places.proofs.repeated.Statement.{statement}
@@ -27,7 +25,7 @@ loop-holds : tie.Need-loop-holds Inv-loop μ-loop
 unfolding repeated
 loop-holds c = (search needs, refl)
 
--- position i ends within the word
+-- the pattern at position i ends within the word
 fits-word : (width i : ℕ) → width ≤ 8 → i < 8 → width * (i + 1) ≤ 64
 fits-word width i h l = rw (add-one i) (mul-le-mul h l)
 
@@ -42,7 +40,7 @@ shl-word c =
     let l : s .loop .position ≤ 7 = omega arith in
     omega (arith, mul-le-mul (s .before .pre .1) l)
 
--- the pattern stored at position i
+-- the pattern is added at the position
 next : (c : lts.Then2 reads.Pre reads.Post Inv-loop μ-loop)
     → let s = c .before .before .before in
     let a = s .before .args in
@@ -53,7 +51,7 @@ next c =
     let i : ℕ = s .loop .position in
     let room : a .width + a .width * i ≤ 64 = omega (arith, fits-word (a .width) i (s .before .pre .1) (omega arith), mul-add (a .width) i 1, mul-one (a .width)) in
     rw (shl-exact (a .width) (a .width * i) 64 (s .before .pre .0) room, s .loop .inv .1)
-    (sym (repeated-turn (a .pattern) (a .width) (a .range) i true (rw (le-leb _ _ (c .before .if1 .taken), le-leb _ _ (c .if2 .taken)))))
+    (sym (repeated-turn (a .pattern) (a .width) (a .range) i true (in-range-yes (a .range) i (omega arith) (omega arith))))
 
 add-word : tie.Need-add-word Inv-loop μ-loop
 add-word c =
@@ -66,7 +64,7 @@ add-position c = search needs
 loop-less : tie.Need-loop-less Inv-loop μ-loop
 loop-less c = search needs
 
--- position i is passed over
+-- the position is passed over
 stays : (c : lts.Joined1 reads.Pre reads.Post Inv-loop μ-loop)
     → let s = c .before .before in
     let a = s .before .args in
@@ -80,14 +78,13 @@ stays c e =
 loop-again : tie.Need-loop-again Inv-loop μ-loop
 loop-again c =
     let s = c .before .before in
-    let a = s .before .args in
-    let i : ℕ = s .loop .position in (
+    let a = s .before .args in (
       omega arith,
       ⊎-elim
           (λ w. w .2 ∙ next (record { before = record { before = c .before; if1 = w .0 }; if2 = w .1 }))
           (⊎-elim
-          (λ w. w .2 ∙ stays c (rw (le-leb _ _ (w .0 .taken), lt-leb _ _ (w .1 .left))))
-          (λ w. w .1 ∙ stays c (rw (lt-leb _ _ (w .0 .left)))))
+          (λ w. w .2 ∙ stays c (above-range (a .range) (s .loop .position) (omega arith)))
+          (λ w. w .1 ∙ stays c (below-range (a .range) (s .loop .position) (omega arith))))
           (c .if1 .came),
     )
 

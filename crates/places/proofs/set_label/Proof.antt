@@ -1,6 +1,5 @@
 -- `places::set_label` meets its contract: the label's words before the offset are stored in their place.
 use mathlib.Core.Path.{_≡_, _∙_}
-use mathlib.Core.List.{List}
 use Prim.Native.Nat.{ℕ, _*_, _≤_, _-_}
 use lib.ListN.{length, length-set}
 use lib.Seq.{paste, paste-zero}

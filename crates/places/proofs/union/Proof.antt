@@ -1,24 +1,23 @@
 -- `places::union` meets its contract: the first i words of the union are stored.
-use mathlib.Core.Path.{_≡_, refl, sym, _∙_}
-use mathlib.Core.List.{List, _++_}
-use Prim.Native.Nat.{ℕ, _≤_, _-_}
-use lib.ListN.{length, take, drop, replicate}
+use mathlib.Core.Path.{_≡_, refl, sym}
+use Prim.Native.Nat.{_-_}
+use lib.ListN.{length}
 use Rattle.places.specs.Sets.{union}
 use Rattle.places.proofs.Sets.{length-union, union-word}
-use Rattle.places.proofs.Loops.{fill-turn, fill-end}
+use Rattle.places.proofs.Loops.{Filled, filled-turn, filled-end}
 use borrow.Author.Needs.{needs}
 use native.Mathlib.Omega.{arith}
 use Rattle.places.proofs.union.Statement.{statement}
 use Rattle.places.proofs.union.Tie as tie
 
 abbrev Inv-loop : tie.InvT-loop
-Inv-loop a b set₀ i₀ set i = (i ≤ 8) × (set ≡ take i (union a b) ++ drop i set₀)
+Inv-loop a b set₀ i₀ set i = Filled 8 (union a b) set₀ set i
 
 abbrev μ-loop : tie.MeasureT-loop
 μ-loop a b set₀ i₀ set i = 8 - i
 
 loop-holds : tie.Need-loop-holds Inv-loop μ-loop
-loop-holds c = (search needs, refl)
+loop-holds c = record { at = search needs; words = refl }
 
 mul-set : tie.Need-mul-set Inv-loop μ-loop
 mul-set c = search needs
@@ -44,24 +43,16 @@ add-i c = search needs
 loop-less : tie.Need-loop-less Inv-loop μ-loop
 loop-less c = search needs
 
+eight : (s : tie.Start Inv-loop μ-loop) → length (union (s .args .t1) (s .args .t2)) ≡ 8
+eight s = length-union _ _ (s .good .0 .1 .0 .1) (s .good .1 .0 .1 .0 .1)
+
 loop-again : tie.Need-loop-again Inv-loop μ-loop
 loop-again c =
     let s = c .before .before in
-    let i : ℕ = c .before .loop .i in
-    let a : List ℕ = s .args .t1 in
-    let b : List ℕ = s .args .t2 in
-    let la : length a ≡ 8 = s .good .0 .1 .0 .1 in
-    let lb : length b ≡ 8 = s .good .1 .0 .1 .0 .1 in
-    (omega arith, fill-turn (union a b) _ _ i _ (omega (arith, length-union a b)) (omega arith) (sym (union-word a b i)) (c .before .loop .inv .1))
+    filled-turn (eight s) refl (omega arith) (sym (union-word (s .args .t1) (s .args .t2) (c .before .loop .i))) (c .before .loop .inv)
 
 returns : tie.Need-returns Inv-loop μ-loop
-returns c =
-    let s = c .before .before in
-    let a : List ℕ = s .args .t1 in
-    let b : List ℕ = s .args .t2 in
-    let la : length a ≡ 8 = s .good .0 .1 .0 .1 in
-    let lb : length b ≡ 8 = s .good .1 .0 .1 .0 .1 in
-    c .before .loop .inv .1 ∙ fill-end (union a b) (replicate 8 0) (c .before .loop .i) (omega (arith, length-union a b)) (omega arith)
+returns c = filled-end (eight (c .before .before)) refl (omega arith) (c .before .loop .inv)
 
 pub union-spec : {M : Type 1} → statement M
 union-spec =

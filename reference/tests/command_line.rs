@@ -1,0 +1,82 @@
+//! The command-line program.
+
+use std::io::Write;
+use std::path::{Path, PathBuf};
+use std::process::{Command, Output, Stdio};
+use std::{env, fs, process};
+
+#[path = "common/w.rs"]
+mod w;
+
+use w::book_w;
+
+/// Runs the program with these arguments and this standard input.
+fn reference(arguments: &[&Path], input: &[u8]) -> Output {
+    let mut child = Command::new(env!("CARGO_BIN_EXE_reference"))
+        .args(arguments)
+        .stdin(Stdio::piped())
+        .stdout(Stdio::piped())
+        .stderr(Stdio::piped())
+        .spawn()
+        .unwrap();
+    let mut stdin = child.stdin.take().unwrap();
+    stdin.write_all(input).unwrap();
+    drop(stdin);
+    child.wait_with_output().unwrap()
+}
+
+/// The path of a file for one test, in the system's temporary folder.
+fn temporary(name: &str) -> PathBuf {
+    env::temp_dir().join(format!("reference-{}-{name}", process::id()))
+}
+
+#[test]
+fn run_lists_a_book_from_standard_input() {
+    let output = reference(&["run".as_ref()], &book_w().encode());
+    assert_eq!(output.stdout, b"out 1 250\nstop 27 7 19\n");
+    assert_eq!(output.stderr, b"");
+    assert_eq!(output.status.code(), Some(0));
+}
+
+#[test]
+fn run_lists_a_book_from_a_file() {
+    let path = temporary("w");
+    fs::write(&path, book_w().encode()).unwrap();
+    let output = reference(&["run".as_ref(), &path], b"");
+    fs::remove_file(&path).unwrap();
+    assert_eq!(output.stdout, b"out 1 250\nstop 27 7 19\n");
+    assert_eq!(output.status.code(), Some(0));
+}
+
+#[test]
+fn a_refused_book_is_listed() {
+    let output = reference(&["run".as_ref()], b"");
+    assert_eq!(output.stdout, b"refused 2 0\n");
+    assert_eq!(output.status.code(), Some(0));
+}
+
+#[test]
+fn a_missing_file_is_named() {
+    let path = temporary("missing");
+    let output = reference(&["run".as_ref(), &path], b"");
+    let message = String::from_utf8(output.stderr).unwrap();
+    assert!(message.contains(path.to_str().unwrap()), "{message}");
+    assert_eq!(output.stdout, b"");
+    assert_eq!(output.status.code(), Some(2));
+}
+
+#[test]
+fn other_command_lines_show_the_usage() {
+    let lines: [&[&Path]; 3] = [
+        &[],
+        &["unknown".as_ref()],
+        &["run".as_ref(), "one".as_ref(), "two".as_ref()],
+    ];
+    for arguments in lines {
+        let output = reference(arguments, b"");
+        let message = String::from_utf8(output.stderr).unwrap();
+        assert!(message.contains("usage: reference"), "{message}");
+        assert_eq!(output.stdout, b"");
+        assert_eq!(output.status.code(), Some(2));
+    }
+}
