@@ -8,7 +8,7 @@ use Prim.Native.Nat.{ℕ, zero, suc, _*_, _<_}
 use native.Mathlib.Nat.{not-suc-le-zero, le-of-suc-le-suc, eq-or-lt-of-le}
 use native.Mathlib.Omega.{arith}
 use lib.ListN.{length}
-use Rattle.places.specs.Sets.{has, tally, size, first, or-else, lowest}
+use Rattle.places.specs.Sets.{has, tally, size, least, or-else, lowest}
 use Rattle.places.proofs.Sets.{has-below}
 
 -- ---- of a predicate
@@ -34,22 +34,22 @@ tally-none f n = (up n, down n)
     down zero h = refl
     down (suc n) h = rw (h n (omega arith)) (omega (arith, down n (λ k l. h k (omega arith))))
 
--- what `first` answers: the least number below n that f picks, or none where it picks none
-pub data First (f : ℕ → Bool) (n : ℕ) : Option ℕ → Type 0 where
-  found : {p : ℕ} → p < n → f p ≡ true → None f p → First f n (some p)
-  missing : None f n → First f n none
+-- what `least` answers: the least of the numbers below n that f picks, or none where it picks none
+pub data Least (f : ℕ → Bool) (n : ℕ) : Option ℕ → Type 0 where
+  found : {p : ℕ} → p < n → f p ≡ true → None f p → Least f n (some p)
+  missing : None f n → Least f n none
 
-pub first-is : (f : ℕ → Bool) (n : ℕ) → First f n (first f n)
-unfolding first
-first-is f zero = missing (λ k h. absurd (not-suc-le-zero h))
-first-is f (suc n) = more (first-is f n) (f n) refl
+pub least-is : (f : ℕ → Bool) (n : ℕ) → Least f n (least f n)
+unfolding least
+least-is f zero = missing (λ k h. absurd (not-suc-le-zero h))
+least-is f (suc n) = more (least-is f n) (f n) refl
   where
-    last : None f n → (b : Bool) → f n ≡ b → First f (suc n) (cond b (some n) none)
+    last : None f n → (b : Bool) → f n ≡ b → Least f (suc n) (cond b (some n) none)
     last h true e = found {p = n} (omega arith) e h
     last h false e =
         missing (λ k l. ⊎-elim (λ (q : k ≡ n). ap f q ∙ e) (λ (j : k < n). h k j) (eq-or-lt-of-le (le-of-suc-le-suc l)))
 
-    more : {o : Option ℕ} → First f n o → (b : Bool) → f n ≡ b → First f (suc n) (or-else o (cond b (some n) none))
+    more : {o : Option ℕ} → Least f n o → (b : Bool) → f n ≡ b → Least f (suc n) (or-else o (cond b (some n) none))
     more (found {p = r} l e h) b q = found {p = r} (omega arith) e h
     more (missing h) b q = last h b q
 
@@ -73,9 +73,9 @@ size-zero s = (λ e. no-members s (tally-none (has s) (64 * length s) .0 e), λ 
 -- the lowest member is a member, and no lower place is
 pub lowest-some : (s : List ℕ) (p : ℕ) → lowest s ≡ some p → (has s p ≡ true) × ((q : ℕ) → q < p → has s q ≡ false)
 unfolding lowest
-lowest-some s p e = go (first-is (has s) (64 * length s)) e
+lowest-some s p e = go (least-is (has s) (64 * length s)) e
   where
-    go : {o : Option ℕ} → First (has s) (64 * length s) o → o ≡ some p → (has s p ≡ true) × ((q : ℕ) → q < p → has s q ≡ false)
+    go : {o : Option ℕ} → Least (has s) (64 * length s) o → o ≡ some p → (has s p ≡ true) × ((q : ℕ) → q < p → has s q ≡ false)
     go (found {p = r} l m h) q =
         let e : r ≡ p = cc in
         (rw e at m, rw e at h)
@@ -84,8 +84,8 @@ lowest-some s p e = go (first-is (has s) (64 * length s)) e
 -- where there is no lowest member, there is no member
 pub lowest-none : (s : List ℕ) → lowest s ≡ none → (p : ℕ) → has s p ≡ false
 unfolding lowest
-lowest-none s e = go (first-is (has s) (64 * length s)) e
+lowest-none s e = go (least-is (has s) (64 * length s)) e
   where
-    go : {o : Option ℕ} → First (has s) (64 * length s) o → o ≡ none → (p : ℕ) → has s p ≡ false
+    go : {o : Option ℕ} → Least (has s) (64 * length s) o → o ≡ none → (p : ℕ) → has s p ≡ false
     go (found l m h) q = absurd (none-some (sym q))
     go (missing h) q = no-members s h

@@ -1,3 +1,4 @@
+pub mod Places
 pub mod Bits
 pub mod Sets
 pub mod Counting

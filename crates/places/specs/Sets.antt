@@ -81,11 +81,11 @@ abbrev pub or-else : Option ℕ → Option ℕ → Option ℕ
 or-else (some p) q = some p
 or-else none q = q
 
--- the least number below n that f picks
-unfoldable pub first : (ℕ → Bool) → ℕ → Option ℕ
-first f zero = none
-first f (suc n) = or-else (first f n) (cond (f n) (some n) none)
+-- the least of the numbers below n that f picks
+unfoldable pub least : (ℕ → Bool) → ℕ → Option ℕ
+least f zero = none
+least f (suc n) = or-else (least f n) (cond (f n) (some n) none)
 
 -- the lowest member
 unfoldable pub lowest : List ℕ → Option ℕ
-lowest s = first (has s) (64 * length s)
+lowest s = least (has s) (64 * length s)

@@ -6,7 +6,7 @@ mod order;
 mod records;
 mod trailer;
 
-use reference::book::{kind, Book, Refusal};
+use reference::book::{Book, Refusal};
 use reference::builder::Builder;
 
 /// An accepted book with at least three records in every section.
@@ -82,10 +82,6 @@ fn shared_children_are_looked_at_once() {
         b.put_trigger(0, 0, root);
     }
     assert_eq!(verdict(&b.book.encode()), None);
-
-    b.book.nodes[0].kind = kind::OUT;
-    b.book.nodes[0].a = 0;
-    assert_eq!(verdict(&b.book.encode()), Some((8, 0)));
 }
 
 #[test]
