@@ -4,8 +4,11 @@
 pub mod book;
 pub mod builder;
 mod decode;
+pub mod generate;
 mod interpreter;
+pub mod notation;
 pub mod places;
+pub mod random;
 pub mod run;
 pub mod run_list;
 pub mod writer;

@@ -1,5 +1,7 @@
 //! The command line.
 
+use reference::book::{Book, Refusal};
+use reference::notation;
 use reference::run::on_deep_stack;
 use reference::run_list::run_list;
 use std::env;
@@ -9,41 +11,88 @@ use std::io::{self, Read, Write};
 use std::path::Path;
 use std::process::ExitCode;
 
-const USAGE: &str = "usage: reference run [FILE]
-  run   run the book in FILE, or in standard input, and list what it does";
+const USAGE: &str = "usage: reference run|assemble|list [FILE]
+  run       run the book in FILE, or in standard input, and list what it does
+  assemble  write the book that a text describes
+  list      write the text that describes a book";
+
+/// Exit code for a text with a fault and for a book that is refused. Only `run`
+/// lists a refused book, or one that stops, with exit code 0.
+const BAD_INPUT: u8 = 1;
 
 /// Exit code for a command line that makes no sense or a file that cannot be
-/// read. A book that is refused or stops is listed, with exit code 0.
+/// read.
 const TROUBLE: u8 = 2;
+
+/// What to say on standard error, and the exit code.
+struct Failure {
+    message: String,
+    code: u8,
+}
+
+impl From<String> for Failure {
+    fn from(message: String) -> Failure {
+        Failure {
+            message,
+            code: TROUBLE,
+        }
+    }
+}
+
+fn bad_input(message: String) -> Failure {
+    Failure {
+        message,
+        code: BAD_INPUT,
+    }
+}
+
+fn refused(refusal: Refusal) -> Failure {
+    bad_input(format!("refused {} {}", refusal.number, refusal.index))
+}
 
 fn main() -> ExitCode {
     let arguments: Vec<OsString> = env::args_os().skip(1).collect();
-    if let Err(message) = dispatch(&arguments) {
-        eprintln!("{message}");
-        return ExitCode::from(TROUBLE);
+    if let Err(failure) = dispatch(&arguments) {
+        eprintln!("{}", failure.message);
+        return ExitCode::from(failure.code);
     }
     ExitCode::SUCCESS
 }
 
-fn dispatch(arguments: &[OsString]) -> Result<(), String> {
+fn dispatch(arguments: &[OsString]) -> Result<(), Failure> {
     let (command, file) = match arguments {
         [command] => (command, None),
         [command, file] => (command, Some(Path::new(file))),
-        _ => return Err(USAGE.to_string()),
+        _ => return Err(USAGE.to_string().into()),
     };
     match command.to_str() {
         Some("run") => run(file),
-        _ => Err(format!(
-            "reference: unknown command {}\n{USAGE}",
-            command.to_string_lossy()
-        )),
+        Some("assemble") => assemble(file),
+        Some("list") => list(file),
+        _ => {
+            let command = command.to_string_lossy();
+            Err(format!("reference: unknown command {command}\n{USAGE}").into())
+        }
     }
 }
 
-fn run(file: Option<&Path>) -> Result<(), String> {
+fn run(file: Option<&Path>) -> Result<(), Failure> {
     let book = input(file)?;
     let text = on_deep_stack(|| run_list(&book));
-    print(&text)
+    print(text.as_bytes())
+}
+
+fn assemble(file: Option<&Path>) -> Result<(), Failure> {
+    let text = String::from_utf8(input(file)?).map_err(|error| bad_input(error.to_string()))?;
+    let book = notation::assemble(&text).map_err(|fault| bad_input(fault.to_string()))?;
+    let bytes = book.encode();
+    Book::decode(&bytes).map_err(refused)?;
+    print(&bytes)
+}
+
+fn list(file: Option<&Path>) -> Result<(), Failure> {
+    let book = Book::decode(&input(file)?).map_err(refused)?;
+    print(notation::list(&book).as_bytes())
 }
 
 /// The bytes of a file, or of standard input.
@@ -58,8 +107,8 @@ fn input(file: Option<&Path>) -> Result<Vec<u8>, String> {
     Ok(bytes)
 }
 
-fn print(text: &str) -> Result<(), String> {
+fn print(bytes: &[u8]) -> Result<(), Failure> {
     io::stdout()
-        .write_all(text.as_bytes())
-        .map_err(|error| format!("reference: standard output: {error}"))
+        .write_all(bytes)
+        .map_err(|error| format!("reference: standard output: {error}").into())
 }

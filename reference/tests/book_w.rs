@@ -65,3 +65,8 @@ fn distances_are_as_published() {
 fn run_list_prints_two_lines() {
     assert_eq!(run_list(&FILE), "out 1 250\nstop 27 7 19\n");
 }
+
+#[test]
+fn the_example_is_this_file() {
+    assert_eq!(include_bytes!("../../examples/w.book"), &FILE);
+}
