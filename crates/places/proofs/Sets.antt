@@ -1,4 +1,4 @@
--- The laws of sets of places, for any number of words. All go by one meaning of `⊆`: bit by bit, the first set's is at most the second's.
+-- The laws of sets of places, for any number of words. All go by one meaning of `Within`: bit by bit, the first set's is at most the second's.
 use mathlib.Core.Path.{_≡_, refl, sym, ap, _∙_}
 use mathlib.Core.List.{List, [], _∷_}
 use mathlib.Core.Bool.{Bool, true, false, _&&_, _||_, not, false≢true}
@@ -13,7 +13,7 @@ use lib.Dec.{eqb, ltb}
 use lib.ListN.{length, getD, List·getD-eq-default}
 use lib.Seq.{ext-getD}
 use borrow.Author.Tests.{eqb-true, eq-eqb, lt-ltb, le-ltb}
-use Rattle.places.specs.Sets.{Words, bit, has, empty, word-of, set-of, single, word-by-word, union, without, difference, within, _⊆_}
+use Rattle.places.specs.Sets.{Words, bit, has, empty, word-of, set-of, single, word-by-word, union, without, difference, within, Within}
 use Rattle.places.proofs.Bits.{bit-lt, bit-zero, bit-high, bit-or, bit-without, same-bits, or-within, within-or, or-set, without-set, yes-no-set, word-of-lt, bit-word-of}
 
 -- tests that hold in the same cases are equal
@@ -35,7 +35,7 @@ yes-le {x} {y} h e = go (decLt 0 x)
         omega (arith, eqb-true y 1 (e (eq-eqb x 1 one)))
     go (no g) = omega arith
 
--- ---- what `⊆` means
+-- ---- what `Within` means
 
 -- bit k of word w
 abbrev pub bit-at : List ℕ → ℕ → ℕ → ℕ
@@ -51,46 +51,46 @@ both-and {s} {t} p q = ap (λ (u : Bool). u && t) p ∙ q
 none-le : (k n : ℕ) → bit k 0 ≤ n
 none-le k n = rw (bit-zero k) zero-le
 
-within-bits : (a b : List ℕ) → within a b ≡ true → (w k : ℕ) → bit-at a w k ≤ bit-at b w k
+test-bits : (a b : List ℕ) → within a b ≡ true → (w k : ℕ) → bit-at a w k ≤ bit-at b w k
 unfolding within
-within-bits [] b e w k = none-le k (bit-at b w k)
-within-bits (x ∷ a) [] e zero k = or-within x 0 (or-zero-r x ∙ eqb-true x 0 (and-both {s = eqb x 0} e .0)) k
-within-bits (x ∷ a) [] e (suc w) k = within-bits a [] (and-both {s = eqb x 0} e .1) w k
-within-bits (x ∷ a) (y ∷ b) e zero k = or-within x y (eqb-true (bitOr x y) y (and-both {s = eqb (bitOr x y) y} e .0)) k
-within-bits (x ∷ a) (y ∷ b) e (suc w) k = within-bits a b (and-both {s = eqb (bitOr x y) y} e .1) w k
+test-bits [] b e w k = none-le k (bit-at b w k)
+test-bits (x ∷ a) [] e zero k = or-within x 0 (or-zero-r x ∙ eqb-true x 0 (and-both {s = eqb x 0} e .0)) k
+test-bits (x ∷ a) [] e (suc w) k = test-bits a [] (and-both {s = eqb x 0} e .1) w k
+test-bits (x ∷ a) (y ∷ b) e zero k = or-within x y (eqb-true (bitOr x y) y (and-both {s = eqb (bitOr x y) y} e .0)) k
+test-bits (x ∷ a) (y ∷ b) e (suc w) k = test-bits a b (and-both {s = eqb (bitOr x y) y} e .1) w k
 
-bits-within : (a b : List ℕ) → ((w k : ℕ) → bit-at a w k ≤ bit-at b w k) → within a b ≡ true
+bits-test : (a b : List ℕ) → ((w k : ℕ) → bit-at a w k ≤ bit-at b w k) → within a b ≡ true
 unfolding within
-bits-within [] b h = refl
-bits-within (x ∷ a) [] h = both-and (eq-eqb x 0 (sym (or-zero-r x) ∙ within-or x 0 (λ k. h 0 k))) (bits-within a [] (λ w k. h (suc w) k))
-bits-within (x ∷ a) (y ∷ b) h = both-and (eq-eqb (bitOr x y) y (within-or x y (λ k. h 0 k))) (bits-within a b (λ w k. h (suc w) k))
+bits-test [] b h = refl
+bits-test (x ∷ a) [] h = both-and (eq-eqb x 0 (sym (or-zero-r x) ∙ within-or x 0 (λ k. h 0 k))) (bits-test a [] (λ w k. h (suc w) k))
+bits-test (x ∷ a) (y ∷ b) h = both-and (eq-eqb (bitOr x y) y (within-or x y (λ k. h 0 k))) (bits-test a b (λ w k. h (suc w) k))
 
-pub ⊆-bits : {a b : List ℕ} → a ⊆ b → (w k : ℕ) → bit-at a w k ≤ bit-at b w k
-⊆-bits {a} {b} h = within-bits a b (h .holds)
+pub within-bits : {a b : List ℕ} → Within a b → (w k : ℕ) → bit-at a w k ≤ bit-at b w k
+within-bits {a} {b} h = test-bits a b (h .holds)
 
-pub bits-⊆ : {a b : List ℕ} → ((w k : ℕ) → bit-at a w k ≤ bit-at b w k) → a ⊆ b
-bits-⊆ {a} {b} h = record { holds = bits-within a b h }
+pub bits-within : {a b : List ℕ} → ((w k : ℕ) → bit-at a w k ≤ bit-at b w k) → Within a b
+bits-within {a} {b} h = record { holds = bits-test a b h }
 
 -- ---- the order
 
-pub ⊆-refl : (a : List ℕ) → a ⊆ a
-⊆-refl a = bits-⊆ (λ w k. le-refl (bit-at a w k))
+pub within-refl : (a : List ℕ) → Within a a
+within-refl a = bits-within (λ w k. le-refl (bit-at a w k))
 
-pub ⊆-trans : {a b c : List ℕ} → a ⊆ b → b ⊆ c → a ⊆ c
-⊆-trans h l = bits-⊆ (λ w k. le-trans (⊆-bits h w k) (⊆-bits l w k))
+pub within-trans : {a b c : List ℕ} → Within a b → Within b c → Within a c
+within-trans h l = bits-within (λ w k. le-trans (within-bits h w k) (within-bits l w k))
 
 -- sets of equally many words
-pub ⊆-antisym : {a b : List ℕ} → length a ≡ length b → a ⊆ b → b ⊆ a → a ≡ b
-⊆-antisym {a} {b} e h l =
-    ext-getD 0 a b e (λ w lt. same-bits (getD a w 0) (getD b w 0) (λ k. le-antisymm (⊆-bits h w k) (⊆-bits l w k)))
+pub within-antisym : {a b : List ℕ} → length a ≡ length b → Within a b → Within b a → a ≡ b
+within-antisym {a} {b} e h l =
+    ext-getD 0 a b e (λ w lt. same-bits (getD a w 0) (getD b w 0) (λ k. le-antisymm (within-bits h w k) (within-bits l w k)))
 
 empty-word : (n w : ℕ) → _≡_ {A = ℕ} (getD (empty n) w 0) 0
 empty-word zero w = refl
 empty-word (suc n) zero = refl
 empty-word (suc n) (suc w) = empty-word n w
 
-pub empty-⊆ : (n : ℕ) (a : List ℕ) → empty n ⊆ a
-empty-⊆ n a = bits-⊆ (λ w k. rw (empty-word n w) (none-le k (bit-at a w k)))
+pub empty-within : (n : ℕ) (a : List ℕ) → Within (empty n) a
+empty-within n a = bits-within (λ w k. rw (empty-word n w) (none-le k (bit-at a w k)))
 
 -- ---- word by word
 
@@ -133,22 +133,22 @@ length-difference a b p q = omega (arith, length-word-by-word without a b)
 union-bit : (a b : List ℕ) (w k : ℕ) → bit-at (union a b) w k ≡ max (bit-at a w k) (bit-at b w k)
 union-bit a b w k = ap (bit k) (union-word a b w) ∙ bit-or k (getD a w 0) (getD b w 0)
 
-pub ⊆-union-left : (a b : List ℕ) → a ⊆ union a b
-⊆-union-left a b = bits-⊆ (λ w k. rw union-bit (le-max-left _ _))
+pub within-union-left : (a b : List ℕ) → Within a (union a b)
+within-union-left a b = bits-within (λ w k. rw union-bit (le-max-left _ _))
 
-pub ⊆-union-right : (a b : List ℕ) → b ⊆ union a b
-⊆-union-right a b = bits-⊆ (λ w k. rw union-bit (le-max-right _ _))
+pub within-union-right : (a b : List ℕ) → Within b (union a b)
+within-union-right a b = bits-within (λ w k. rw union-bit (le-max-right _ _))
 
-pub union-least : {a b c : List ℕ} → a ⊆ c → b ⊆ c → union a b ⊆ c
-union-least h l = bits-⊆ (λ w k. rw union-bit (max-le (⊆-bits h w k) (⊆-bits l w k)))
+pub union-least : {a b c : List ℕ} → Within a c → Within b c → Within (union a b) c
+union-least h l = bits-within (λ w k. rw union-bit (max-le (within-bits h w k) (within-bits l w k)))
 
 -- ---- difference
 
 difference-bit : (a b : List ℕ) (w k : ℕ) → bit-at (difference a b) w k ≡ bit-at a w k - bit-at b w k
 difference-bit a b w k = ap (bit k) (difference-word a b w) ∙ bit-without k (getD a w 0) (getD b w 0)
 
-pub difference-⊆ : (a b : List ℕ) → difference a b ⊆ a
-difference-⊆ a b = bits-⊆ (λ w k. omega (arith, difference-bit a b w k))
+pub difference-within : (a b : List ℕ) → Within (difference a b) a
+difference-within a b = bits-within (λ w k. omega (arith, difference-bit a b w k))
 
 -- ---- members
 
@@ -219,14 +219,14 @@ unfolding single
 has-single n p q = has-set-of n (λ q. eqb q p) q
 
 -- a set of 64-bit words is within another where each of its members is one of the other's, and only there
-pub ⊆-members : {a b : List ℕ} → Words a → (a ⊆ b) ↔ ((p : ℕ) → has a p ≡ true → has b p ≡ true)
+pub within-members : {a b : List ℕ} → Words a → Within a b ↔ ((p : ℕ) → has a p ≡ true → has b p ≡ true)
 unfolding has
-⊆-members {a} {b} words = (λ h p e. up h p e, λ h. bits-⊆ (λ w k. down h w k (decLt k 64)))
+within-members {a} {b} words = (λ h p e. up h p e, λ h. bits-within (λ w k. down h w k (decLt k 64)))
   where
-    up : a ⊆ b → (p : ℕ) → has a p ≡ true → has b p ≡ true
+    up : Within a b → (p : ℕ) → has a p ≡ true → has b p ≡ true
     up h p e =
         let one : bit-at a (p / 64) (p % 64) ≡ 1 = eqb-true _ 1 e in
-        eq-eqb (bit-at b (p / 64) (p % 64)) 1 (omega (arith, ⊆-bits h (p / 64) (p % 64), bit-lt (p % 64) (getD b (p / 64) 0)))
+        eq-eqb (bit-at b (p / 64) (p % 64)) 1 (omega (arith, within-bits h (p / 64) (p % 64), bit-lt (p % 64) (getD b (p / 64) 0)))
 
     down : ((p : ℕ) → has a p ≡ true → has b p ≡ true) → (w k : ℕ) → Dec (k < 64) → bit-at a w k ≤ bit-at b w k
     down h w k (yes l) =

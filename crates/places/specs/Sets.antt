@@ -64,8 +64,8 @@ within [] b = true
 within (x ∷ a) [] = eqb x 0 && within a []
 within (x ∷ a) (y ∷ b) = eqb (bitOr x y) y && within a b
 
-infix 40 _⊆_
-pub record _⊆_ (a b : List ℕ) : Type 0 where
+-- the same as a statement
+pub record Within (a b : List ℕ) : Type 0 where
   pub holds : within a b ≡ true
 
 -- how many of the numbers below n are picked by f
