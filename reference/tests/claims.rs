@@ -15,7 +15,7 @@ use support::Lent;
 
 /// Pairs and single books for each test function. There are four of each, so
 /// that two processors can share them.
-const PAIRS: u64 = 70_000;
+const PAIRS: u64 = 60_000;
 const SINGLES: u64 = 52_000;
 
 /// Tries every seed; then tells how many failed, and the first of them whole.
