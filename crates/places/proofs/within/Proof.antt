@@ -54,7 +54,12 @@ turn c =
     ∙ within-turn (s .args .t1) (s .args .t2) (c .before .loop .word) (omega (arith, s .good .0 .1 .0 .1)) (omega (arith, s .good .1 .0 .1 .0 .1))
 
 returns : tie.Need-returns Inv-loop μ-loop
-returns c = sym (turn (c .before) ∙ rw (ne-eqb _ _ (c .if1 .taken)))
+returns c =
+    let s = c .before .before .before in
+    let x : ℕ = getD (s .args .t1) (c .before .before .loop .word) 0 in
+    let y : ℕ = getD (s .args .t2) (c .before .before .loop .word) 0 in
+    let lacks : bitOr x y ≡ y → ⊥ = c .if1 .taken in
+    sym (turn (c .before) ∙ rw (ne-eqb (bitOr x y) y lacks))
 
 add-word : tie.Need-add-word Inv-loop μ-loop
 add-word c = search needs
@@ -63,7 +68,12 @@ loop-less : tie.Need-loop-less Inv-loop μ-loop
 loop-less c = search needs
 
 loop-again : tie.Need-loop-again Inv-loop μ-loop
-loop-again c = (omega arith, sym (turn (c .before) ∙ rw (eq-eqb _ _ (c .if1 .left))))
+loop-again c =
+    let s = c .before .before .before in
+    let x : ℕ = getD (s .args .t1) (c .before .before .loop .word) 0 in
+    let y : ℕ = getD (s .args .t2) (c .before .before .loop .word) 0 in
+    let held : bitOr x y ≡ y = c .if1 .left in
+    (omega arith, sym (turn (c .before) ∙ rw (eq-eqb (bitOr x y) y held)))
 
 returns-2 : tie.Need-returns-2 Inv-loop μ-loop
 returns-2 c =
