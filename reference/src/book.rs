@@ -123,25 +123,29 @@ impl Book {
             join(&self.programs, program_bytes),
             join(&self.triggers, trigger_bytes),
         ];
-        let counts = [
-            self.cells.len(),
-            self.regions.len(),
-            self.rights.len(),
-            self.nodes.len(),
-            self.programs.len(),
-            self.triggers.len(),
-        ];
         let mut file = sections.concat();
         let length = file.len() + 36;
         file.extend(OPENING);
         let mut distance = length;
-        for (section, count) in sections.iter().zip(counts) {
+        for (section, count) in sections.iter().zip(self.counts()) {
             file.extend((distance as u16).to_le_bytes());
             file.extend((count as u16).to_le_bytes());
             distance -= section.len();
         }
         file.extend((length as u32).to_le_bytes());
         file
+    }
+
+    /// How many records each section has.
+    pub fn counts(&self) -> [usize; 6] {
+        [
+            self.cells.len(),
+            self.regions.len(),
+            self.rights.len(),
+            self.nodes.len(),
+            self.programs.len(),
+            self.triggers.len(),
+        ]
     }
 
     /// Makes the present cells, by place, the book's cells. Amounts of absent

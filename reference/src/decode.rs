@@ -3,11 +3,12 @@
 use crate::book::{kind, Book, Cell, Node, Program, Refusal, Region, Right, Trigger, OPENING};
 use crate::places::place;
 
-const TRAILER: usize = 36;
+pub(crate) const TRAILER: usize = 36;
 const LONGEST: usize = 60_000;
 
 /// For each section, the most records it may have and the bytes of each.
-const SECTIONS: [(usize, usize); 6] = [(512, 8), (64, 8), (64, 4), (1_024, 16), (8, 4), (8, 8)];
+pub(crate) const SECTIONS: [(usize, usize); 6] =
+    [(512, 8), (64, 8), (64, 4), (1_024, 16), (8, 4), (8, 8)];
 
 impl Book {
     /// The records of a file, or refusal 2–10 with the first bad record's index.

@@ -2,6 +2,7 @@
 
 use crate::book::{kind, Book, Node};
 use crate::places::{place, Places};
+use crate::rights::Rights;
 use crate::run::{Memory, Tests};
 
 const PUT_EVENT: u8 = 1;
@@ -72,11 +73,7 @@ pub(crate) struct Interpreter<'a> {
     memory: &'a mut Memory,
     budget: u32,
     tests: Tests,
-    public: Places,
-    /// By user, without the public set.
-    readable: [Places; 8],
-    /// By user.
-    writable: [Places; 8],
+    rights: Rights,
     cost: u32,
     bytes: usize,
 }
@@ -89,27 +86,15 @@ impl<'a> Interpreter<'a> {
         budget: u32,
         tests: Tests,
     ) -> Interpreter<'a> {
-        let mut interpreter = Interpreter {
+        Interpreter {
             book,
             memory,
             budget,
             tests,
-            public: Places::EMPTY,
-            readable: [Places::EMPTY; 8],
-            writable: [Places::EMPTY; 8],
+            rights: Rights::at_start(book),
             cost: 0,
             bytes: 0,
-        };
-        for right in &book.rights {
-            let user = usize::from(right.user);
-            let set = match right.kind {
-                0 => &mut interpreter.public,
-                1 => &mut interpreter.readable[user],
-                _ => &mut interpreter.writable[user],
-            };
-            set.add(&Places::of_region(&book.regions[usize::from(right.region)]));
         }
-        interpreter
     }
 
     /// The cost spent so far.
@@ -283,7 +268,8 @@ impl<'a> Interpreter<'a> {
         scope: &Scope,
     ) -> Result<(), Stop> {
         let Labelled { value, label } = self.evaluate(node.a, scope)?;
-        let readable = self.readable[usize::from(node.p)].union(&self.public);
+        let rights = &self.rights;
+        let readable = rights.readable[usize::from(node.p)].union(&rights.public);
         self.require_flow(&label.union(context), &readable, 27, number)?;
         self.record([TRACE_OUT, node.p, 0, 0], value, number)
     }
@@ -298,7 +284,7 @@ impl<'a> Interpreter<'a> {
         scope: &Scope,
     ) -> Result<(), Stop> {
         require(scope.user == 0, 28, number)?;
-        self.require_flow(context, &self.public, 29, number)?;
+        self.require_flow(context, &self.rights.public, 29, number)?;
         let grant = node.kind == kind::GRANT;
         let read = node.b == READ;
         let trace_kind = match (grant, read) {
@@ -310,9 +296,9 @@ impl<'a> Interpreter<'a> {
         self.record([trace_kind, node.p, node.a as u8, 0], 0, number)?;
         let places = self.region_places(node.a);
         let sets = if read {
-            &mut self.readable
+            &mut self.rights.readable
         } else {
-            &mut self.writable
+            &mut self.rights.writable
         };
         let set = &mut sets[usize::from(node.p)];
         if grant {
@@ -363,7 +349,7 @@ impl<'a> Interpreter<'a> {
             context: context.union(&owner.label).union(&line.label),
         };
         let place = write.place();
-        let allowed = self.writable[usize::from(scope.user)].holds(place);
+        let allowed = self.rights.writable[usize::from(scope.user)].holds(place);
         require(allowed, 24, number)?;
         self.require_flow(&write.context, &self.cell_label(place), 26, number)?;
         Ok(write)

@@ -4,11 +4,13 @@
 pub mod book;
 pub mod builder;
 mod decode;
+pub mod format_cases;
 pub mod generate;
 mod interpreter;
 pub mod notation;
 pub mod places;
 pub mod random;
+pub mod rights;
 pub mod run;
 pub mod run_list;
 pub mod writer;

@@ -1,6 +1,7 @@
 //! The command line.
 
 use reference::book::{Book, Refusal};
+use reference::format_cases;
 use reference::notation;
 use reference::run::on_deep_stack;
 use reference::run_list::run_list;
@@ -12,9 +13,12 @@ use std::path::Path;
 use std::process::ExitCode;
 
 const USAGE: &str = "usage: reference run|assemble|list [FILE]
-  run       run the book in FILE, or in standard input, and list what it does
-  assemble  write the book that a text describes
-  list      write the text that describes a book";
+       reference format-cases FOLDER
+  run           run the book in FILE, or in standard input, and list what it does
+  assemble      write the book that a text describes
+  list          write the text that describes a book
+  format-cases  write cases for readers and writers of books to FOLDER/stdin, and
+                the lines that these cases have to give to FOLDER/stdout";
 
 /// Exit code for a text with a fault and for a book that is refused. Only `run`
 /// lists a refused book, or one that stops, with exit code 0.
@@ -69,6 +73,7 @@ fn dispatch(arguments: &[OsString]) -> Result<(), Failure> {
         Some("run") => run(file),
         Some("assemble") => assemble(file),
         Some("list") => list(file),
+        Some("format-cases") => write_format_cases(file),
         _ => {
             let command = command.to_string_lossy();
             Err(format!("reference: unknown command {command}\n{USAGE}").into())
@@ -95,16 +100,34 @@ fn list(file: Option<&Path>) -> Result<(), Failure> {
     print(notation::list(&book).as_bytes())
 }
 
+fn write_format_cases(folder: Option<&Path>) -> Result<(), Failure> {
+    let Some(folder) = folder else {
+        return Err(USAGE.to_string().into());
+    };
+    let cases = format_cases::all();
+    output(&folder.join("stdin"), &format_cases::stream(&cases))?;
+    let answers = format_cases::answers(&cases);
+    output(&folder.join("stdout"), answers.as_bytes())
+}
+
+fn output(path: &Path, bytes: &[u8]) -> Result<(), Failure> {
+    fs::write(path, bytes).map_err(|error| trouble(path, error).into())
+}
+
 /// The bytes of a file, or of standard input.
 fn input(file: Option<&Path>) -> Result<Vec<u8>, String> {
     if let Some(path) = file {
-        return fs::read(path).map_err(|error| format!("reference: {}: {error}", path.display()));
+        return fs::read(path).map_err(|error| trouble(path, error));
     }
     let mut bytes = Vec::new();
     io::stdin()
         .read_to_end(&mut bytes)
         .map_err(|error| format!("reference: standard input: {error}"))?;
     Ok(bytes)
+}
+
+fn trouble(path: &Path, error: io::Error) -> String {
+    format!("reference: {}: {error}", path.display())
 }
 
 fn print(bytes: &[u8]) -> Result<(), Failure> {

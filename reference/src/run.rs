@@ -43,7 +43,7 @@ impl Memory {
     }
 
     /// The state at the start: the book's cells, each cell labelled by itself.
-    fn load(&mut self, book: &Book) {
+    fn set(&mut self, book: &Book) {
         self.amounts.fill(0);
         self.presence.fill(0);
         self.labels.fill(0);
@@ -79,19 +79,30 @@ pub enum Answer {
     },
 }
 
+const REFUSED_1: Refusal = Refusal {
+    number: 1,
+    index: 0,
+};
+
+/// Sets the state at the start. A refusal leaves all of `memory` as it was.
+pub fn load(file: &[u8], memory: &mut Memory) -> Result<Book, Refusal> {
+    if !memory.is_accepted() {
+        return Err(REFUSED_1);
+    }
+    let book = Book::decode(file)?;
+    memory.set(&book);
+    Ok(book)
+}
+
 /// Runs a book. A refusal leaves all of `memory` as it was.
 pub fn run(file: &[u8], budget: u32, memory: &mut Memory, tests: Tests) -> Answer {
-    if budget > MOST_BUDGET || !memory.is_accepted() {
-        return Answer::Refused(Refusal {
-            number: 1,
-            index: 0,
-        });
+    if budget > MOST_BUDGET {
+        return Answer::Refused(REFUSED_1);
     }
-    let book = match Book::decode(file) {
+    let book = match load(file, memory) {
         Ok(book) => book,
         Err(refusal) => return Answer::Refused(refusal),
     };
-    memory.load(&book);
     let mut interpreter = Interpreter::new(&book, memory, budget, tests);
     let (number, node) = match interpreter.programs() {
         Ok(()) => (0, 0),

@@ -1,5 +1,6 @@
 //! The command-line program.
 
+use reference::format_cases;
 use std::io::Write;
 use std::path::{Path, PathBuf};
 use std::process::{Command, Output, Stdio};
@@ -56,20 +57,38 @@ fn a_refused_book_is_listed() {
 }
 
 #[test]
+fn format_cases_go_to_a_folder() {
+    let folder = temporary("cases");
+    fs::create_dir(&folder).unwrap();
+    let output = reference(&["format-cases".as_ref(), &folder], b"");
+    let stdin = fs::read(folder.join("stdin")).unwrap();
+    let stdout = fs::read_to_string(folder.join("stdout")).unwrap();
+    fs::remove_dir_all(&folder).unwrap();
+    let cases = format_cases::all();
+    assert_eq!(stdin, format_cases::stream(&cases));
+    assert_eq!(stdout.lines().count(), cases.len());
+    assert_eq!(output.stdout, b"");
+    assert_eq!(output.status.code(), Some(0));
+}
+
+#[test]
 fn a_missing_file_is_named() {
     let path = temporary("missing");
-    let output = reference(&["run".as_ref(), &path], b"");
-    let message = String::from_utf8(output.stderr).unwrap();
-    assert!(message.contains(path.to_str().unwrap()), "{message}");
-    assert_eq!(output.stdout, b"");
-    assert_eq!(output.status.code(), Some(2));
+    for command in ["run", "format-cases"] {
+        let output = reference(&[command.as_ref(), &path], b"");
+        let message = String::from_utf8(output.stderr).unwrap();
+        assert!(message.contains(path.to_str().unwrap()), "{message}");
+        assert_eq!(output.stdout, b"");
+        assert_eq!(output.status.code(), Some(2));
+    }
 }
 
 #[test]
 fn other_command_lines_show_the_usage() {
-    let lines: [&[&Path]; 3] = [
+    let lines: [&[&Path]; 4] = [
         &[],
         &["unknown".as_ref()],
+        &["format-cases".as_ref()],
         &["run".as_ref(), "one".as_ref(), "two".as_ref()],
     ];
     for arguments in lines {

@@ -267,3 +267,38 @@ words-set-of n f = record { fits = go n f }
     go zero f w = pow-pos 64
     go (suc n) f zero = word-of-lt f 64
     go (suc n) f (suc w) = go n (λ p. f (64 + p)) w
+
+-- ---- a set is known by its members
+
+-- sets of equally many 64-bit words
+pub same-members : {a b : List ℕ} → length a ≡ length b → Words a → Words b → ((p : ℕ) → has a p ≡ has b p) → a ≡ b
+same-members e h l same =
+    within-antisym e (within-members h .1 (λ p q. sym (same p) ∙ q)) (within-members l .1 (λ p q. same p ∙ q))
+
+-- the set of a set's own members
+pub set-of-has : (a : List ℕ) → Words a → set-of (length a) (has a) ≡ a
+set-of-has a h =
+    same-members (length-set-of (length a) (has a)) (words-set-of (length a) (has a)) h (λ p. has-set-of (length a) (has a) p ∙ inside p (has a p) refl)
+  where
+    inside : (p : ℕ) (t : Bool) → has a p ≡ t → ltb p (64 * length a) && t ≡ t
+    inside p true e = rw (lt-ltb p (64 * length a) (has-below a p e))
+    inside p false e = none (ltb p (64 * length a))
+      where
+        none : (t : Bool) → t && false ≡ false
+        none true = refl
+        none false = refl
+
+-- the union of the sets of two predicates
+pub union-set-of : (n : ℕ) (f g : ℕ → Bool) → union (set-of n f) (set-of n g) ≡ set-of n (λ p. f p || g p)
+union-set-of n f g =
+    same-members
+    (length-union (set-of n f) (set-of n g) (length-set-of n f) (length-set-of n g) ∙ sym (length-set-of n (λ p. f p || g p)))
+    (words-union (words-set-of n f) (words-set-of n g))
+    (words-set-of n (λ p. f p || g p))
+    (λ p.
+    has-union (set-of n f) (set-of n g) p
+    ∙ rw (has-set-of n f p, has-set-of n g p, has-set-of n (λ p. f p || g p) p) (either (ltb p (64 * n)) (f p) (g p)))
+  where
+    either : (t x y : Bool) → t && x || t && y ≡ t && (x || y)
+    either true x y = refl
+    either false x y = refl

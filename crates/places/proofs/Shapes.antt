@@ -25,7 +25,7 @@ unfolding word-of
 word-of-cong f g zero h = refl
 word-of-cong f g (suc n) h = ap₂ (λ (x : ℕ) (b : Bool). x + cond b (2 ^ n) 0) (word-of-cong f g n (λ k l. h k (omega arith))) (h n (omega arith))
 
-set-of-cong : (f g : ℕ → Bool) (n : ℕ) → ((p : ℕ) → p < 64 * n → f p ≡ g p) → set-of n f ≡ set-of n g
+pub set-of-cong : (f g : ℕ → Bool) (n : ℕ) → ((p : ℕ) → p < 64 * n → f p ≡ g p) → set-of n f ≡ set-of n g
 unfolding set-of
 set-of-cong f g zero h = refl
 set-of-cong f g (suc n) h =
@@ -38,7 +38,7 @@ unfolding word-of
 word-of-none zero = refl
 word-of-none (suc n) = omega (arith, word-of-none n)
 
-set-of-none : (n : ℕ) → set-of n (λ p. false) ≡ empty n
+pub set-of-none : (n : ℕ) → set-of n (λ p. false) ≡ empty n
 unfolding set-of
 set-of-none zero = refl
 set-of-none (suc n) = ap₂ (λ (x : ℕ) (s : List ℕ). x ∷ s) (word-of-none 64) (set-of-none n)

@@ -1,0 +1,9 @@
+pub mod First
+pub mod Records
+pub mod Chains
+pub mod Sections
+pub mod Decoded
+pub mod Scans
+pub mod Verdicts
+pub mod Accepted
+pub mod Tabulate

@@ -1,0 +1,7 @@
+pub mod Bytes
+pub mod Records
+pub mod Layout
+pub mod Kinds
+pub mod Refusals
+pub mod Start
+pub mod Encode

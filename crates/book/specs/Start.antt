@@ -1,0 +1,63 @@
+-- The start state of a book: its cells, and the public, read and write sets.
+use mathlib.Core.List.{List, [], _∷_, _++_}
+use mathlib.Core.Bool.{Bool, true, false, _&&_, _||_, cond}
+use mathlib.Core.Option.{Option, none, some}
+use Prim.Native.Nat.{ℕ, zero, suc}
+use lib.Dec.{eqb}
+use lib.IntN.{ℤ, pos}
+use lib.ListN.{getD}
+use Rattle.places.specs.Sets.{set-of}
+use Rattle.places.specs.Regions.{in-region}
+use Rattle.places.specs.Labels.{own-labels}
+use Rattle.book.specs.Records.{CellRecord, RightRecord, Book, place-of, region-of}
+use Rattle.book.specs.Refusals.{no-region}
+
+-- f 0, f 1 and so on, n of them
+unfoldable pub tabulate : {A : Type 0} → (ℕ → A) → ℕ → List A
+tabulate f zero = []
+tabulate f (suc n) = tabulate f n ++ (f n ∷ [])
+
+-- the amount of the record with place p, if there is one
+unfoldable pub amount-at : List CellRecord → ℕ → Option ℤ
+amount-at [] p = none
+amount-at (c ∷ cs) p = cond (eqb (place-of c) p) (some (c .amount)) (amount-at cs p)
+
+abbrev pub or-zero : Option ℤ → ℤ
+or-zero none = pos 0
+or-zero (some z) = z
+
+abbrev pub is-there : Option ℤ → Bool
+is-there none = false
+is-there (some z) = true
+
+-- the 512 amounts, 0 where a cell is absent
+unfoldable pub start-amounts : Book → List ℤ
+start-amounts b = tabulate (λ p. or-zero (amount-at (b .cells) p)) 512
+
+-- the presence words
+unfoldable pub start-presence : Book → List ℕ
+start-presence b = set-of 8 (λ p. is-there (amount-at (b .cells) p))
+
+-- each cell's label is its own place alone
+abbrev pub start-labels : List ℕ
+start-labels = own-labels 512
+
+-- whether one of the rights records of this kind and user names a region that holds p
+unfoldable pub rights-hold : Book → ℕ → ℕ → List RightRecord → ℕ → Bool
+rights-hold b kind user [] p = false
+rights-hold b kind user (r ∷ rs) p =
+    ((eqb (r .kind) kind && eqb (r .user) user) && in-region (region-of (getD (b .regions) (r .region) no-region)) p) || rights-hold b kind user rs p
+
+-- the places of all regions in the rights records of this kind for this user
+unfoldable pub right-set : Book → ℕ → ℕ → List ℕ
+right-set b kind user = set-of 8 (rights-hold b kind user (b .rights))
+
+-- the public set, and the read and write sets of the eight users
+abbrev pub public-set : Book → List ℕ
+public-set b = right-set b 0 0
+
+abbrev pub read-sets : Book → List (List ℕ)
+read-sets b = tabulate (right-set b 1) 8
+
+abbrev pub write-sets : Book → List (List ℕ)
+write-sets b = tabulate (right-set b 2) 8

@@ -1,0 +1,315 @@
+// Reads cases for the loader and the writer from standard input, and prints what each comes to, a line a case. The cases and
+// the lines to expect are made by the reference.
+//
+// A case is a header of 16 bytes and a file. The header, lowest byte first: the file's length (4 bytes), the lengths of the
+// lent amounts, presence, labels and output (2 each), and a seed (4) from which the cells to write are drawn. Its line:
+// the loader's number and index (0 0 if it accepted); digests of amounts, presence, labels and rights; the writer's number
+// and index (0 and the length if it wrote); the digest of the output.
+ghost use mathlib.Core.Path.{_≡_};
+ghost use Prim.Native.Nat.{_<_};
+ghost use lib.ListN.{length};
+
+// The digest of a sequence and one more number.
+fn mixed(digest: u32, number: u32) -> u32 {
+    ((digest as u64 * 16777619 + number as u64) % 4294967291) as u32
+}
+
+// The digest of a sequence and one more word: its low half, then its high half.
+fn mixed_word(digest: u32, word: u64) -> u32 {
+    let low = (word % 4294967296) as u32;
+    let high = (word / 4294967296) as u32;
+    mixed(mixed(digest, low), high)
+}
+
+// The digest of a sequence and more words.
+fn mixed_words(digest: u32, words: &[u64]) -> u32 {
+    let mut sum = digest;
+    let mut at: usize = 0;
+    while at < words.len() {
+        sum = mixed_word(sum, words[at]);
+        at += 1;
+    }
+    sum
+}
+
+// The digest of a sequence and a set.
+fn mixed_set(digest: u32, set: [u64; 8]) -> u32 {
+    mixed_words(digest, &set)
+}
+
+// The digest of a sequence and the sets of all users.
+fn mixed_sets(digest: u32, sets: [[u64; 8]; 8]) -> u32 {
+    let mut sum = digest;
+    let mut user: usize = 0;
+    while user < 8 {
+        sum = mixed_set(sum, sets[user]);
+        user += 1;
+    }
+    sum
+}
+
+// The digest of amounts, by their bits.
+fn digest_of_amounts(amounts: &[i32]) -> u32 {
+    let mut sum: u32 = 1;
+    let mut at: usize = 0;
+    while at < amounts.len() {
+        sum = mixed(sum, book::bits_of(amounts[at]));
+        at += 1;
+    }
+    sum
+}
+
+// The digest of bytes.
+fn digest_of_bytes(bytes: &[u8]) -> u32 {
+    let mut sum: u32 = 1;
+    let mut at: usize = 0;
+    while at < bytes.len() {
+        sum = mixed(sum, bytes[at] as u32);
+        at += 1;
+    }
+    sum
+}
+
+// The digest of a book's rights: the public set, the read sets of all users, their write sets; 0 of a refused file.
+fn digest_of_rights(file: &[u8]) -> u32 {
+    match reader::inspect(file) {
+        book::Verdict::Accepted => {
+            let public = loader::public_set(file);
+            let read = loader::right_sets(file, 1);
+            let write = loader::right_sets(file, 2);
+            mixed_sets(mixed_sets(mixed_set(1, public), read), write)
+        }
+        book::Verdict::Refused(_, _) => 0,
+    }
+}
+
+// Prints a number and a space.
+fn print(number: usize) {
+    io::print_decimal(1, number as u64);
+    io::write_all(1, b" ");
+}
+
+// Loads the file; prints the answer and the digests of the lent memory and the rights.
+fn load(file: &[u8], amounts: &mut [i32], presence: &mut [u64], labels: &mut [u64]) {
+    let mut rights: u32 = 0;
+    match loader::load(file, amounts, presence, labels) {
+        book::Verdict::Accepted => {
+            io::write_all(1, b"0 0 ");
+            rights = digest_of_rights(file);
+        }
+        book::Verdict::Refused(number, index) => {
+            print(number as usize);
+            print(index);
+        }
+    }
+    print(digest_of_amounts(amounts) as usize);
+    print(mixed_words(1, presence) as usize);
+    print(mixed_words(1, labels) as usize);
+    print(rights as usize);
+}
+
+// Writes the file with these cells; prints the answer and the digest of the output.
+fn write(file: &[u8], amounts: &[i32], presence: &[u64], out: &mut [u8]) {
+    match writer::write(file, amounts, presence, out) {
+        writer::Written::Wrote(length) => {
+            io::write_all(1, b"0 ");
+            print(length);
+        }
+        writer::Written::Refused(number, index) => {
+            print(number as usize);
+            print(index);
+        }
+    }
+    io::print_decimal(1, digest_of_bytes(out) as u64);
+    io::write_all(1, b"\n");
+}
+
+// The number drawn after another.
+fn drawn(number: u32) -> u32
+    ensures { λ r. ⌜ r < 2147483648 ⌝ }
+{
+    ((number as u64 * 1103515245 + 12345) % 2147483648) as u32
+}
+
+// The amount of a place for the number drawn: at every second place it is negative.
+fn amount_of(number: u32, place: usize) -> i32
+    requires { ⌜ number < 2147483648 ⌝ }
+{
+    if place % 2 == 0 {
+        return number as i32;
+    }
+    0 - (number as i32)
+}
+
+// Draws amounts; answers the last number drawn.
+fn draw_amounts(amounts: &mut [i32], seed: u32) -> u32 {
+    let mut last = seed;
+    let mut at: usize = 0;
+    while at < amounts.len() {
+        last = drawn(last);
+        amounts[at] = amount_of(last, at);
+        at += 1;
+    }
+    last
+}
+
+// Draws words of two numbers each.
+fn draw_presence(presence: &mut [u64], seed: u32) {
+    let mut last = seed;
+    let mut at: usize = 0;
+    while at < presence.len() {
+        let high = drawn(last);
+        last = drawn(high);
+        presence[at] = high as u64 * 8589934592 + last as u64 * 2;
+        at += 1;
+    }
+}
+
+// Draws the cells to write; at seed 0 they stay as they are.
+fn draw(amounts: &mut [i32], presence: &mut [u64], seed: u32) {
+    if seed == 0 {
+        return;
+    }
+    let last = draw_amounts(amounts, seed);
+    draw_presence(presence, last);
+}
+
+// Makes every amount this one.
+fn fill_amounts(amounts: &mut [i32], amount: i32) {
+    let mut at: usize = 0;
+    while at < amounts.len() {
+        amounts[at] = amount;
+        at += 1;
+    }
+}
+
+// Makes every word this one.
+fn fill_words(words: &mut [u64], word: u64) {
+    let mut at: usize = 0;
+    while at < words.len() {
+        words[at] = word;
+        at += 1;
+    }
+}
+
+// Makes every byte this one.
+fn fill_bytes(bytes: &mut [u8], byte: u8) {
+    let mut at: usize = 0;
+    while at < bytes.len() {
+        bytes[at] = byte;
+        at += 1;
+    }
+}
+
+// Does a case and prints its line. What is lent is filled first, so that what is left alone shows.
+fn case(
+    file: &[u8],
+    amounts: &mut [i32],
+    presence: &mut [u64],
+    labels: &mut [u64],
+    out: &mut [u8],
+    seed: u32,
+) {
+    fill_amounts(amounts, 7);
+    fill_words(presence, 5);
+    fill_words(labels, 3);
+    fill_bytes(out, 165);
+    load(file, amounts, presence, labels);
+    draw(amounts, presence, seed);
+    write(file, amounts, presence, out);
+}
+
+// Does a case in as much of the buffers as its header says; answers whether they are long enough.
+fn case_in(
+    header: &[u8],
+    file: &[u8],
+    amounts: &mut [i32],
+    presence: &mut [u64],
+    labels: &mut [u64],
+    out: &mut [u8],
+) -> bool
+    requires { ⌜ length (now header) ≡ 16 ⌝ }
+{
+    let amount_count = book::u16_at(header, 4);
+    let presence_count = book::u16_at(header, 6);
+    let label_count = book::u16_at(header, 8);
+    let out_size = book::u16_at(header, 10);
+    let seed = book::u32_at(header, 12);
+    if amounts.len() < amount_count {
+        return false;
+    }
+    if presence.len() < presence_count {
+        return false;
+    }
+    if labels.len() < label_count {
+        return false;
+    }
+    if out.len() < out_size {
+        return false;
+    }
+    case(
+        file,
+        &mut amounts[0..amount_count],
+        &mut presence[0..presence_count],
+        &mut labels[0..label_count],
+        &mut out[0..out_size],
+        seed,
+    );
+    true
+}
+
+// Reads a case and does it; answers whether there was one that fits the buffers.
+fn step(
+    file: &mut [u8],
+    amounts: &mut [i32],
+    presence: &mut [u64],
+    labels: &mut [u64],
+    out: &mut [u8],
+) -> bool {
+    let mut header = [0u8; 16];
+    let got = io::read_full(0, &mut header);
+    if got < 16 {
+        return false;
+    }
+    let size = book::u32_at(&header, 0) as usize;
+    if file.len() < size {
+        return false;
+    }
+    let read = io::read_full(0, &mut file[0..size]);
+    if read < size {
+        return false;
+    }
+    case_in(&header, &file[0..size], amounts, presence, labels, out)
+}
+
+// Does the cases one after another, up to a million.
+fn all(
+    file: &mut [u8],
+    amounts: &mut [i32],
+    presence: &mut [u64],
+    labels: &mut [u64],
+    out: &mut [u8],
+) {
+    let mut turns: usize = 0;
+    while turns < 1000000 {
+        if !step(file, amounts, presence, labels, out) {
+            return;
+        }
+        turns += 1;
+    }
+}
+
+fn main() {
+    let mut file = [0u8; 60016];
+    let mut amounts = [0i32; 520];
+    let mut presence = [0u64; 16];
+    let mut labels = [0u64; 4104];
+    let mut out = [0u8; 60008];
+    all(
+        &mut file,
+        &mut amounts,
+        &mut presence,
+        &mut labels,
+        &mut out,
+    );
+}

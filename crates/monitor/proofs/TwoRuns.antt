@@ -1,0 +1,55 @@
+-- Demand 3 on the rules: two runs of one script from states that agree inside R, a set that holds the group's reach. Assumes nothing.
+use mathlib.Core.Path.{_≡_, sym, ap, _∙_}
+use mathlib.Core.List.{[], append-nil}
+use mathlib.Core.Logic.{_⊎_, inl, inr}
+use mathlib.Core.Bool.{true, false≢true}
+use Prim.Native.Nat.{ℕ}
+use Rattle.places.specs.Sets.{Within}
+use Rattle.book.specs.Records.{Book}
+use Rattle.book.specs.Start.{public-set}
+use Rattle.monitor.specs.Labelled.{Label, Lab}
+use Rattle.monitor.specs.Run.{Cell, State, Out}
+use Rattle.monitor.specs.Rules.{run}
+use Rattle.monitor.specs.TwoBooks.{Group, InsideEither}
+use Rattle.monitor.proofs.Views.{records, end, is-done, seen-of, gift, gifts, Begun}
+use Rattle.monitor.proofs.Low.{Hidden, within?, Same, equal, hidden, same-inside, same-sym}
+use Rattle.monitor.proofs.Steps.{Match, both, first-stops, second-stops, beyond, Both}
+use Rattle.monitor.proofs.Flow.{view, pair-run}
+
+-- what two runs show a group
+pub record Agree (g : Group) (R : Label) (o o' : Out (Unit {0})) : Type 0 where
+  pub begins : Begun (seen-of g (records o)) (seen-of g (records o')) ⊎ Begun (seen-of g (records o')) (seen-of g (records o))
+  pub traces : is-done o ≡ true → is-done o' ≡ true → seen-of g (records o) ≡ seen-of g (records o')
+  pub cells : is-done o ≡ true → is-done o' ≡ true → (q : ℕ) → InsideEither R (end o .cells q) (end o' .cells q) → end o .cells q ≡ end o' .cells q
+
+-- cells that are equal wherever one of the two lies inside R
+same-cells : {R : Label} {x y : Lab Cell} → (InsideEither R x y → x ≡ y) → Same R x y
+same-cells {R} {x} {y} h = go (within? (x .lab) R) (within? (y .lab) R)
+  where
+    go : Within (x .lab) R ⊎ Hidden R (x .lab) → Within (y .lab) R ⊎ Hidden R (y .lab) → Same R x y
+    go (inl l) d = equal (h (inl l))
+    go (inr k) (inl l) = equal (h (inr l))
+    go (inr k) (inr k') = hidden k k'
+
+equal-cells : {R : Label} {x y : Lab Cell} → Same R x y → InsideEither R x y → x ≡ y
+equal-cells e (inl l) = same-inside e l
+equal-cells e (inr l) = sym (same-inside (same-sym e) l)
+
+agree : (b : Book) (g : Group) (R : Label) {o o' : Out (Unit {0})}
+    → Within (gifts (gift b g) (records o)) R → Match (view b g R) Both o o' → Agree g R o o'
+unfolding records end is-done
+agree b g R l (both {t = t} e r q) =
+    record { begins = inl (record { rest = []; is = append-nil (seen-of g t) ∙ e }); traces = λ _ _. e; cells = λ _ _ q. equal-cells (r .cells q) }
+agree b g R l (first-stops f) = record { begins = inl f; traces = λ d _. absurd (false≢true d); cells = λ d _. absurd (false≢true d) }
+agree b g R l (second-stops f) = record { begins = inr f; traces = λ _ d. absurd (false≢true d); cells = λ _ d. absurd (false≢true d) }
+agree b g R l (beyond h) = absurd (h l)
+
+pub two-runs : (b : Book) (g : Group) (R : Label) (s s' : State) (fuel fuel' : ℕ)
+    → s .rights ≡ s' .rights → s .vars ≡ s' .vars
+    → Within (public-set b) R → ((u : ℕ) → g u ≡ true → Within (s .rights .read u) R)
+    → ((q : ℕ) → InsideEither R (s .cells q) (s' .cells q) → s .cells q ≡ s' .cells q)
+    → Within (gifts (gift b g) (records (run b true fuel s))) R
+    → Agree g R (run b true fuel s) (run b true fuel' s')
+two-runs b g R s s' fuel fuel' rights vars public read cells gifts =
+    agree b g R gifts (pair-run b g R public fuel fuel' s s'
+    (record { cells = λ q. same-cells (cells q); vars = λ p. equal (ap (λ f. f p) vars); rights = rights; safe = record { safe = read } }))

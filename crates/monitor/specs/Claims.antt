@@ -1,0 +1,34 @@
+-- The claims about the rules, as statements. Their proofs are in proofs/.
+use mathlib.Core.Path.{_≡_}
+use mathlib.Core.List.{List}
+use mathlib.Core.Logic.{_⊎_}
+use mathlib.Core.Bool.{Bool, true, false}
+use Prim.Native.Nat.{ℕ, _≤_}
+use Rattle.book.specs.Records.{Book}
+use Rattle.monitor.specs.Run.{State}
+use Rattle.monitor.specs.Rules.{run}
+use Rattle.monitor.specs.Call.{Memory, Result, call}
+use Rattle.monitor.specs.TwoBooks.{Group, accepted, finished, group-trace, Begins, reach, SameInside, DifferOutside, cells-in}
+
+-- Fuel is enough: any two fuels that are at least what is left of the budget give the same run.
+abbrev pub FuelEnough : Type 0
+FuelEnough = (b : Book) (labels : Bool) (fuel fuel' : ℕ) (s : State) → s .left ≤ fuel → s .left ≤ fuel' → run b labels fuel s ≡ run b labels fuel' s
+
+-- Demand 2, the run with no labels: where the labelled run finishes, the other gives the same answer (it finishes, with the same cost)
+-- and leaves the same lent memory (cells and trace).
+abbrev pub NoLabelsSame : Type 0
+NoLabelsSame = (file : List ℕ) (budget : ℕ) (m : Memory) → finished (call true file budget m .answer) ≡ true → call false file budget m ≡ call true file budget m
+
+-- what the group learns from two runs: nothing but where one stopped, and where both finish, nothing
+pub record LearnsNothing (g : Group) (reach : List ℕ) (first second : Result) : Type 0 where
+  pub begins : Begins (group-trace g first) (group-trace g second) ⊎ Begins (group-trace g second) (group-trace g first)
+  pub traces : finished (first .answer) ≡ true → finished (second .answer) ≡ true → group-trace g first ≡ group-trace g second
+  pub cells : finished (first .answer) ≡ true → finished (second .answer) ≡ true → SameInside reach (cells-in (first .memory)) (cells-in (second .memory))
+
+-- Demand 3: for every group, every two accepted books that differ only outside its reach, any budgets, any trace lengths and any
+-- earlier contents of lent memory.
+abbrev pub Demand3 : Type 0
+Demand3 = (g : Group) (file file' : List ℕ) (budget budget' : ℕ) (m m' : Memory) →
+    accepted (call true file budget m .answer) ≡ true → accepted (call true file' budget' m' .answer) ≡ true →
+    DifferOutside (reach g file (call true file budget m)) file file' →
+    LearnsNothing g (reach g file (call true file budget m)) (call true file budget m) (call true file' budget' m')

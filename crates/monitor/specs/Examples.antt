@@ -1,0 +1,173 @@
+-- Worked examples: what the rules give in single cases, among them cases in which comparing two books shows nothing.
+-- The answers are worked out by hand from the paper. A query with its four bounds costs 8, every other node 1.
+use mathlib.Core.List.{List, [], _∷_, _++_}
+use Prim.Native.Nat.{ℕ}
+use lib.IntN.{pos}
+use Rattle.book.specs.Records.{RightRecord, NodeRecord, TriggerRecord}
+use Rattle.book.specs.Encode.{encode}
+use Rattle.monitor.specs.Tables.{cell, table-region, public, may-read, may-write, constant, variable, plus, minus, equals, less, count, sum, smallest, largest, skip, assign, both, if, while, put, clear, out, grant-read, grant-write, revoke-read, revoke-write, raise, program, trigger, Row, Shows, run-list, shows, told, changed}
+use Rattle.monitor.specs.Marked.{w-file, w-rights, w-with}
+
+-- ---- without triggers: W with other nodes from 4 on; nodes 0 to 3 are the constants 0, 1, 2, 7
+
+-- three queries over both owners, to user 1
+abbrev pub queries : List NodeRecord
+queries = count 0 1 2 0 3 ∷ out 4 1 ∷ smallest 0 1 2 0 3 ∷ out 6 1 ∷ largest 0 1 2 0 3 ∷ out 8 1 ∷ both 5 7 ∷ both 10 9 ∷ []
+
+-- smallest plus largest of owners 2 to 1, to user 1
+abbrev pub nothing : List NodeRecord
+nothing = smallest 0 2 1 0 3 ∷ largest 0 2 1 0 3 ∷ plus 4 5 ∷ out 6 1 ∷ []
+
+-- 0 - 1, whether that is less than 0, and whether 1 equals 2, to user 1
+abbrev pub comparing : List NodeRecord
+comparing = minus 0 1 ∷ out 4 1 ∷ less 4 0 ∷ out 6 1 ∷ equals 1 2 ∷ out 8 1 ∷ both 5 7 ∷ both 10 9 ∷ []
+
+-- variable 0 is raised by owner 2's places, then assigned 1, then shown to user 1
+abbrev pub lowered : List NodeRecord
+lowered = raise 0 1 ∷ assign 0 1 ∷ variable 0 ∷ out 6 1 ∷ both 4 5 ∷ both 8 7 ∷ []
+
+-- variable 0 becomes 2, and while it is nonzero it becomes one less
+abbrev pub counting : List NodeRecord
+counting = assign 0 2 ∷ variable 0 ∷ minus 5 1 ∷ assign 0 6 ∷ while 5 7 ∷ both 4 8 ∷ []
+
+-- owner 2's sum to user 1 after a grant, and again after a revoke
+abbrev pub lending : List NodeRecord
+lending = sum 0 2 2 0 3 ∷ grant-read 1 1 ∷ out 4 1 ∷ revoke-read 1 1 ∷ both 5 6 ∷ both 8 7 ∷ both 9 6 ∷ []
+
+-- region 0 is revoked for user 1, and then owner 1's sum goes to him
+abbrev pub revoking : List NodeRecord
+revoking = sum 0 1 1 0 3 ∷ out 4 1 ∷ revoke-read 0 1 ∷ both 6 5 ∷ []
+
+-- user 0 may write region 0, puts, may no longer, and puts again
+abbrev pub writing : List NodeRecord
+writing = grant-write 0 0 ∷ put 0 1 0 1 ∷ revoke-write 0 0 ∷ both 4 5 ∷ both 7 6 ∷ both 8 5 ∷ []
+
+-- 7: if owner 2's sum is nonzero, region 1 is granted to user 1; 9: or cell (0,1,0) becomes 1
+abbrev pub in-secret : List NodeRecord
+in-secret = sum 0 2 2 0 3 ∷ grant-read 1 1 ∷ skip ∷ if 4 5 6 ∷ put 0 1 0 1 ∷ if 4 8 6 ∷ []
+
+-- the sum of owner 3, of whom no cell is present, to user 1
+abbrev pub all-absent : List NodeRecord
+all-absent = constant (pos 3) ∷ sum 0 4 4 0 3 ∷ out 5 1 ∷ []
+
+-- the absent cell (0,1,2) is cleared and then shown to user 1
+abbrev pub clearing : List NodeRecord
+clearing = clear 0 1 2 ∷ sum 0 1 1 2 2 ∷ out 5 1 ∷ both 4 6 ∷ []
+
+-- 4: variable 0 becomes 1; 6: variable 0 to user 1
+abbrev pub one-each : List NodeRecord
+one-each = assign 0 1 ∷ variable 0 ∷ out 5 1 ∷ []
+
+-- ---- with triggers: user 0 may write table 0, and user 3 table 1
+
+-- nodes 0 to 2 are the constants 0, 1, 2; 6 is the body that copies a write to table 1
+abbrev pub copying : List NodeRecord
+copying = constant (pos 0) ∷ constant (pos 1) ∷ constant (pos 2) ∷ variable 0 ∷ variable 1 ∷ variable 2 ∷ put 1 3 4 5 ∷ []
+
+-- cell (0,1,0) holds 1; further rights, nodes from 7 on, the root of user 0's program, and the triggers
+abbrev pub posting : List RightRecord → List NodeRecord → ℕ → List TriggerRecord → List ℕ
+posting rights nodes root triggers =
+    encode (record {
+      cells = cell 0 1 0 (pos 1) ∷ [];
+      regions = table-region 0 ∷ table-region 1 ∷ [];
+      rights = may-write 0 0 ∷ may-write 3 1 ∷ rights;
+      nodes = copying ++ nodes;
+      programs = program 0 root ∷ [];
+      triggers = triggers;
+    })
+
+-- 2 is put at owner 1, line 0, and the copy is shown to user 1
+abbrev pub posted : List NodeRecord
+posted = put 0 1 0 2 ∷ sum 1 1 1 0 0 ∷ out 8 1 ∷ both 7 9 ∷ []
+
+-- the same, and the amount is owner 2's line 0
+abbrev pub posted-secret : List NodeRecord
+posted-secret = sum 0 2 2 0 0 ∷ put 0 1 0 7 ∷ sum 1 1 1 0 0 ∷ out 9 1 ∷ both 8 10 ∷ []
+
+-- the owner of the put is read from cell (0,1,0) itself; 9 is a body that assigns variable 5
+abbrev pub keyed : List NodeRecord
+keyed = sum 0 1 1 0 0 ∷ put 0 7 0 2 ∷ assign 5 1 ∷ []
+
+-- bodies 7 and 8 put 1 and 2 at the written key of table 1, which is then shown
+abbrev pub in-turn : List NodeRecord
+in-turn = put 1 3 4 1 ∷ put 1 3 4 2 ∷ put 0 1 0 2 ∷ sum 1 1 1 0 0 ∷ out 10 1 ∷ both 9 11 ∷ []
+
+-- body 8 puts the amount of a write to line 2 of its owner in table 0; then owner 1's lines 0 to 2 of table 0 are shown
+abbrev pub back-and-forth : List NodeRecord
+back-and-forth = put 0 1 0 2 ∷ put 0 3 2 5 ∷ sum 0 1 1 0 2 ∷ out 9 1 ∷ both 7 10 ∷ []
+
+-- owner 2's line 1 is absent and cleared; body 8 puts the amount, which is 0, plus 1 at the written key of table 1
+abbrev pub cleared : List NodeRecord
+cleared = plus 5 1 ∷ put 1 3 4 7 ∷ clear 0 2 1 ∷ sum 1 2 2 1 1 ∷ out 10 1 ∷ both 9 11 ∷ []
+
+-- ---- the table
+
+unfoldable pub examples : List Row
+examples =
+    -- count, smallest and largest: 11, 10, three outs and queries
+    run-list (w-with (may-read 1 0 ∷ may-read 1 1 ∷ []) queries (program 0 11 ∷ []))
+    (shows 0 0 29 24 (told 2 ∷ told 250 ∷ (1 ∷ 1 ∷ 0 ∷ 0 ∷ 132 ∷ 3 ∷ 0 ∷ 0 ∷ []) ∷ []))
+    -- smallest and largest of nothing are 0: out, sum and two queries
+    ∷ run-list (w-with w-rights nothing (program 0 7 ∷ [])) (shows 0 0 18 8 (told 0 ∷ []))
+    -- minus one, yes and no: 11, 10, outs with 3, 5 and 3 nodes below
+    ∷ run-list (w-with w-rights comparing (program 0 11 ∷ [])) (shows 0 0 16 24 ((1 ∷ 1 ∷ 0 ∷ 0 ∷ 255 ∷ 255 ∷ 255 ∷ 255 ∷ []) ∷ told 1 ∷ told 0 ∷ []))
+    -- eight bytes of trace are room for one record, and not readable comes before no room
+    ∷ record { file = w-file; budget = 100000; trace = 8; shows = shows 27 7 19 8 (told 250 ∷ []) }
+    -- an assigned variable's label does not keep the old one; seven nodes
+    ∷ run-list (w-with w-rights lowered (program 0 9 ∷ [])) (shows 0 0 7 8 (told 1 ∷ []))
+    -- a while costs 2 for each of its three tests, its body 4 for each of two turns; 9, 4 and a constant cost 3
+    ∷ run-list (w-with w-rights counting (program 0 9 ∷ [])) (shows 0 0 17 0 [])
+    -- granted, shown and revoked: 10, 9, 8, 5, 6 with its query, 7, and 6 with its query again
+    ∷ run-list (w-with w-rights lending (program 0 10 ∷ []))
+    (shows 27 6 23 24 (changed 2 1 1 ∷ (1 ∷ 1 ∷ 0 ∷ 0 ∷ 132 ∷ 3 ∷ 0 ∷ 0 ∷ []) ∷ changed 4 1 1 ∷ []))
+    -- a revoke leaves what is public: 7, 6, and 5 with its query
+    ∷ run-list (w-with (public 0 ∷ may-read 1 0 ∷ []) revoking (program 0 7 ∷ []))
+    (shows 0 0 11 16 (changed 4 1 0 ∷ told 250 ∷ []))
+    -- and takes what is not
+    ∷ run-list (w-with (may-read 1 0 ∷ []) revoking (program 0 7 ∷ [])) (shows 27 5 11 8 (changed 4 1 0 ∷ []))
+    -- no write right: put and three constants
+    ∷ run-list (w-with w-rights (put 0 1 0 1 ∷ []) (program 0 4 ∷ [])) (shows 24 4 4 0 [])
+    -- a write right granted and revoked: 9, 8, 7, grant, put 4, revoke, put 4
+    ∷ run-list (w-with [] writing (program 0 9 ∷ [])) (shows 24 5 13 16 (changed 3 0 0 ∷ changed 5 0 0 ∷ []))
+    -- key 8, and no write right either
+    ∷ run-list (w-with w-rights (constant (pos 8) ∷ put 0 4 0 1 ∷ []) (program 0 5 ∷ [])) (shows 23 5 4 0 [])
+    -- a grant by user 1
+    ∷ run-list (w-with w-rights (grant-read 1 1 ∷ []) (program 1 4 ∷ [])) (shows 28 4 1 0 [])
+    -- a grant in a context that user 0 may read and that is not public: if, query and grant
+    ∷ run-list (w-with (may-read 0 1 ∷ []) in-secret (program 0 7 ∷ [])) (shows 29 5 10 0 [])
+    -- and in one that is public
+    ∷ run-list (w-with (public 1 ∷ []) in-secret (program 0 7 ∷ [])) (shows 0 0 10 8 (changed 2 1 1 ∷ []))
+    -- a put in a context that the cell's label does not hold: if, query, put and three constants
+    ∷ run-list (w-with (may-write 0 0 ∷ []) in-secret (program 0 9 ∷ [])) (shows 26 8 13 0 [])
+    -- absent cells count in a query's label: out and query
+    ∷ run-list (w-with w-rights all-absent (program 0 6 ∷ [])) (shows 27 6 9 0 [])
+    -- a cleared cell's label is empty, though it was absent: 7, clear and two constants, out and query
+    ∷ run-list (w-with (may-write 0 0 ∷ []) clearing (program 0 7 ∷ [])) (shows 0 0 13 8 (told 0 ∷ []))
+    -- each program has variables of its own: assignment and constant, out and variable
+    ∷ run-list (w-with w-rights one-each (program 0 4 ∷ program 0 6 ∷ [])) (shows 0 0 4 8 (told 0 ∷ []))
+    -- a trigger copies a put with its own user's rights: 10, put and three constants, the copy's 4, out and query
+    ∷ run-list (posting [] posted 10 (trigger 0 1 3 6 ∷ [])) (shows 0 0 18 8 (told 2 ∷ []))
+    -- where its user may not write table 1, it stops on the copy
+    ∷ run-list (posting [] posted 10 (trigger 0 1 0 6 ∷ [])) (shows 24 6 9 0 [])
+    -- the copy has the amount's label: user 1 may read table 1 and not what was copied; the amount's query costs 8
+    ∷ run-list (posting (may-read 1 1 ∷ []) posted-secret 11 (trigger 0 1 3 6 ∷ [])) (shows 27 10 25 0 [])
+    -- the key's label is in the trigger's context: put, query, two constants, and the copy's 4
+    ∷ run-list (posting [] keyed 8 (trigger 0 1 3 6 ∷ [])) (shows 26 6 15 0 [])
+    -- and in the label of each of its variables: assignment and constant in place of the copy
+    ∷ run-list (posting [] keyed 8 (trigger 0 1 3 9 ∷ [])) (shows 0 0 13 0 [])
+    -- two triggers run by number: 12, put and three constants, twice 4, out and query
+    ∷ run-list (posting [] in-turn 12 (trigger 0 1 3 7 ∷ trigger 0 1 3 8 ∷ [])) (shows 0 0 22 8 (told 2 ∷ []))
+    -- trigger 0's write fires trigger 1, and trigger 1's write does not fire trigger 0: 11, three puts of 4, out and query; the budget
+    -- is just enough
+    ∷ record {
+      file = posting (may-read 1 0 ∷ []) back-and-forth 11 (trigger 0 1 3 6 ∷ trigger 1 1 0 8 ∷ []);
+      budget = 22;
+      trace = 4096;
+      shows = shows 0 0 22 8 (told 4 ∷ []);
+    }
+    -- the clear of an absent cell fires: 12, clear and two constants, put, two variables and a sum of two, out and query
+    ∷ run-list (posting [] cleared 12 (trigger 0 2 3 8 ∷ [])) (shows 0 0 19 8 (told 1 ∷ []))
+    ∷ []
+
+abbrev pub Examples : Type 0
+Examples = Shows examples

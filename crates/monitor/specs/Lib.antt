@@ -1,0 +1,10 @@
+pub mod Labelled
+pub mod Run
+pub mod Syntax
+pub mod Rules
+pub mod Call
+pub mod TwoBooks
+pub mod Claims
+pub mod Tables
+pub mod Marked
+pub mod Examples

@@ -1,0 +1,105 @@
+-- The paper's marked cases, as one table. Book W is given by its bytes, the other books record by record.
+use mathlib.Core.List.{List, [], _∷_, _++_}
+use Prim.Native.Nat.{ℕ}
+use lib.IntN.{pos}
+use Rattle.book.specs.Records.{CellRecord, RegionRecord, RightRecord, NodeRecord, ProgramRecord}
+use Rattle.book.specs.Encode.{encode}
+use Rattle.monitor.specs.Tables.{cell, owner-region, may-read, constant, variable, plus, sum, skip, assign, both, if, out, raise, program, Row, Shows, run-list, shows, told}
+
+-- ---- Book W
+
+unfoldable pub w-file : List ℕ
+w-file =
+    -- cells (0,1,0) = 250 and (0,2,0) = 900
+    0 ∷ 1 ∷ 0 ∷ 0 ∷ 250 ∷ 0 ∷ 0 ∷ 0 ∷ 0 ∷ 2 ∷ 0 ∷ 0 ∷ 132 ∷ 3 ∷ 0 ∷ 0
+    -- regions: table 0 owner 1, table 0 owner 2, all lines
+    ∷ 0 ∷ 1 ∷ 1 ∷ 0 ∷ 7 ∷ 0 ∷ 0 ∷ 0 ∷ 0 ∷ 2 ∷ 2 ∷ 0 ∷ 7 ∷ 0 ∷ 0 ∷ 0
+    -- rights: read for users 1 and 2
+    ∷ 1 ∷ 1 ∷ 0 ∷ 0 ∷ 1 ∷ 2 ∷ 1 ∷ 0
+    -- nodes 0 to 3: constants 0, 1, 2, 7
+    ∷ 1 ∷ 0 ∷ 0 ∷ 0 ∷ 0 ∷ 0 ∷ 0 ∷ 0 ∷ 0 ∷ 0 ∷ 0 ∷ 0 ∷ 0 ∷ 0 ∷ 0 ∷ 0
+    ∷ 1 ∷ 0 ∷ 0 ∷ 0 ∷ 0 ∷ 0 ∷ 0 ∷ 0 ∷ 0 ∷ 0 ∷ 1 ∷ 0 ∷ 0 ∷ 0 ∷ 0 ∷ 0
+    ∷ 1 ∷ 0 ∷ 0 ∷ 0 ∷ 0 ∷ 0 ∷ 0 ∷ 0 ∷ 0 ∷ 0 ∷ 2 ∷ 0 ∷ 0 ∷ 0 ∷ 0 ∷ 0
+    ∷ 1 ∷ 0 ∷ 0 ∷ 0 ∷ 0 ∷ 0 ∷ 0 ∷ 0 ∷ 0 ∷ 0 ∷ 7 ∷ 0 ∷ 0 ∷ 0 ∷ 0 ∷ 0
+    -- 4 sums owners 1 to 1, 5 sums owners 1 to 2
+    ∷ 9 ∷ 0 ∷ 1 ∷ 0 ∷ 1 ∷ 0 ∷ 0 ∷ 0 ∷ 3 ∷ 0 ∷ 0 ∷ 0 ∷ 0 ∷ 0 ∷ 0 ∷ 0
+    ∷ 9 ∷ 0 ∷ 1 ∷ 0 ∷ 2 ∷ 0 ∷ 0 ∷ 0 ∷ 3 ∷ 0 ∷ 0 ∷ 0 ∷ 0 ∷ 0 ∷ 0 ∷ 0
+    -- 6 and 7 out those to user 1, 8 is 6 then 7
+    ∷ 23 ∷ 1 ∷ 4 ∷ 0 ∷ 0 ∷ 0 ∷ 0 ∷ 0 ∷ 0 ∷ 0 ∷ 0 ∷ 0 ∷ 0 ∷ 0 ∷ 0 ∷ 0
+    ∷ 23 ∷ 1 ∷ 5 ∷ 0 ∷ 0 ∷ 0 ∷ 0 ∷ 0 ∷ 0 ∷ 0 ∷ 0 ∷ 0 ∷ 0 ∷ 0 ∷ 0 ∷ 0
+    ∷ 18 ∷ 0 ∷ 6 ∷ 0 ∷ 7 ∷ 0 ∷ 0 ∷ 0 ∷ 0 ∷ 0 ∷ 0 ∷ 0 ∷ 0 ∷ 0 ∷ 0 ∷ 0
+    -- program: user 0, root 8
+    ∷ 0 ∷ 0 ∷ 8 ∷ 0
+    -- "BKWS", version 1; distances 224, 208, 192, 184, 40, 36 with counts 2, 2, 2, 9, 1, 0; 224 bytes
+    ∷ 66 ∷ 75 ∷ 87 ∷ 83 ∷ 1 ∷ 0 ∷ 0 ∷ 0
+    ∷ 224 ∷ 0 ∷ 2 ∷ 0 ∷ 208 ∷ 0 ∷ 2 ∷ 0 ∷ 192 ∷ 0 ∷ 2 ∷ 0 ∷ 184 ∷ 0 ∷ 9 ∷ 0 ∷ 40 ∷ 0 ∷ 1 ∷ 0 ∷ 36 ∷ 0 ∷ 0 ∷ 0
+    ∷ 224 ∷ 0 ∷ 0 ∷ 0 ∷ []
+
+-- the same book record by record, for the books that change a part of it
+abbrev pub w-cells : List CellRecord
+w-cells = cell 0 1 0 (pos 250) ∷ cell 0 2 0 (pos 900) ∷ []
+
+abbrev pub w-regions : List RegionRecord
+w-regions = owner-region 0 1 ∷ owner-region 0 2 ∷ []
+
+abbrev pub w-rights : List RightRecord
+w-rights = may-read 1 0 ∷ may-read 2 1 ∷ []
+
+abbrev pub constants : List NodeRecord
+constants = constant (pos 0) ∷ constant (pos 1) ∷ constant (pos 2) ∷ constant (pos 7) ∷ []
+
+abbrev pub w-nodes : List NodeRecord
+w-nodes = sum 0 1 1 0 3 ∷ sum 0 1 2 0 3 ∷ out 4 1 ∷ out 5 1 ∷ both 6 7 ∷ []
+
+-- the bytes of W with other rights, other nodes from 4 on and other programs
+abbrev pub w-with : List RightRecord → List NodeRecord → List ProgramRecord → List ℕ
+w-with rights nodes programs =
+    encode (record { cells = w-cells; regions = w-regions; rights = rights; nodes = constants ++ nodes; programs = programs; triggers = [] })
+
+-- ---- the table
+
+-- 2147483647 + 1, to user 1
+abbrev pub beyond : List NodeRecord
+beyond = constant (pos 2147483647) ∷ plus 4 1 ∷ out 5 1 ∷ []
+
+-- the sum of owners 3 to 2, to user 1
+abbrev pub none-matched : List NodeRecord
+none-matched = constant (pos 3) ∷ sum 0 4 2 0 3 ∷ out 5 1 ∷ []
+
+-- 7: if owner 2's sum is nonzero, variable 0 becomes 1; 9: raised first by region 1; 12: and then shown to user 1
+abbrev pub branching : List NodeRecord
+branching =
+    sum 0 2 2 0 3 ∷ assign 0 1 ∷ skip ∷ if 4 5 6
+    ∷ raise 0 1 ∷ both 8 7
+    ∷ variable 0 ∷ out 10 1 ∷ both 9 11 ∷ []
+
+-- The numbers are the paper's, and so are node and cost in the first six rows. In the others they follow from its rules: a query
+-- with its four bounds costs 8, every other node 1.
+unfoldable pub marked : List Row
+marked =
+    -- W: 8, 6 and the query 4 cost 10, and then 7 and the query 5 cost 9
+    run-list w-file (shows 27 7 19 8 (told 250 ∷ []))
+    -- budget 18: the last constant of 5 no longer fits
+    ∷ record { file = w-file; budget = 18; trace = 4096; shows = shows 21 3 18 8 (told 250 ∷ []) }
+    -- budget 14: 11 are spent when 5 would cost 4
+    ∷ record { file = w-file; budget = 14; trace = 4096; shows = shows 21 5 11 8 (told 250 ∷ []) }
+    -- trace 7 bytes
+    ∷ record { file = w-file; budget = 100000; trace = 7; shows = shows 30 6 10 0 [] }
+    -- no right for user 1
+    ∷ run-list (w-with (may-read 2 1 ∷ []) w-nodes (program 0 8 ∷ [])) (shows 27 6 10 0 [])
+    -- no programs
+    ∷ run-list (w-with w-rights w-nodes []) (shows 0 0 0 0 [])
+    -- 2147483647 + 1: out, sum and two constants are entered
+    ∷ run-list (w-with w-rights beyond (program 0 6 ∷ [])) (shows 22 5 4 0 [])
+    -- first 3, last 2: out and a query
+    ∷ run-list (w-with w-rights none-matched (program 0 6 ∷ [])) (shows 0 0 9 8 (told 0 ∷ []))
+    -- a fresh variable: if, a query, assignment and constant
+    ∷ run-list (w-with w-rights branching (program 0 7 ∷ [])) (shows 25 5 11 0 [])
+    -- raised first: two nodes more, and the run passes
+    ∷ run-list (w-with w-rights branching (program 0 9 ∷ [])) (shows 0 0 13 0 [])
+    -- and out to user 1: three nodes more
+    ∷ run-list (w-with w-rights branching (program 0 12 ∷ [])) (shows 27 11 16 0 [])
+    ∷ []
+
+abbrev pub Marked : Type 0
+Marked = Shows marked

@@ -1,0 +1,291 @@
+-- The rules: what a run of a book does, as one total definition.
+-- `exec` and `eval` recurse on fuel alone. Each entry to a node costs at least 1, so that a run whose fuel is its budget never
+-- runs out of it before it stops with 21 (proofs/Fuel.antt).
+use mathlib.Core.List.{List, [], _∷_, _++_}
+use mathlib.Core.Bool.{Bool, true, false, _&&_, cond}
+use Prim.Native.Nat.{ℕ, zero, suc, _+_, _-_, _*_}
+use lib.Dec.{ltb, eqb}
+use lib.IntN.{ℤ, pos, negsuc, _+ℤ_, _-ℤ_}
+use lib.ListN.{length, getD}
+use lib.Signed.{ltZ, leZ, mag}
+use Rattle.places.specs.Places.{place, owner-of, line-of}
+use Rattle.places.specs.Sets.{has, union, difference}
+use Rattle.places.specs.Regions.{region-set}
+use Rattle.book.specs.Records.{Book, TriggerRecord, ProgramRecord, region-of}
+use Rattle.book.specs.Kinds.{cost-of}
+use Rattle.book.specs.Refusals.{no-region, no-trigger, node-at}
+use Rattle.book.specs.Start.{public-set}
+use Rattle.monitor.specs.Labelled.{Label, bottom, Lab, lit, lift, lift2, via, under}
+use Rattle.monitor.specs.Run.{Cell, held, absent, Rights, State, said, changed, M, stop, _>>=_, _>>_, ret, look, each, when, plainly, inside, need, update, pay, set-var, set-cell, tell, sixteen, own}
+use Rattle.monitor.specs.Syntax.{Exp, const, var, add, minus, equal, less, query, Cmd, skip, assign, seq, branch, while, put, clear, out, grant, revoke, raise, exp-of, cmd-of}
+
+-- ---- expressions
+
+unfoldable pub fits-32 : ℤ → Bool
+fits-32 z = ltb (mag z) 2147483648
+
+abbrev pub from-bool : Bool → ℤ
+from-bool true = pos 1
+from-bool false = pos 0
+
+unfoldable pub equals : ℤ → ℤ → ℤ
+equals x y = from-bool (leZ x y && leZ y x)
+
+unfoldable pub less-than : ℤ → ℤ → ℤ
+less-than x y = from-bool (ltZ x y)
+
+-- the owner and the line of a cell, as they are worked out
+pub record Key : Type 0 where
+  pub owner : ℤ
+  pub line : ℤ
+
+unfoldable pub key : Lab ℤ → Lab ℤ → Lab Key
+key x y = lift2 (λ o l. record { owner = o; line = l }) x y
+
+-- the bounds of a query: from one key to another
+pub record Box : Type 0 where
+  pub from : Key
+  pub to : Key
+
+-- owners a to b, lines c to d
+unfoldable pub bounds : Lab ℤ → Lab ℤ → Lab ℤ → Lab ℤ → Lab Box
+bounds a b c d =
+    lift2 (λ (o l : Key). record { from = record { owner = o .owner; line = l .owner }; to = record { owner = o .line; line = l .line } }) (key a b) (key c d)
+
+-- bounds may lie outside 0 to 7; first above last matches none
+unfoldable pub in-box : Box → ℕ → Bool
+in-box x q =
+    (leZ (x .from .owner) (pos (owner-of q)) && leZ (pos (owner-of q)) (x .to .owner))
+    && (leZ (x .from .line) (pos (line-of q)) && leZ (pos (line-of q)) (x .to .line))
+
+-- the cells that are picked among the n places from `base` on, present or absent, with the labels of all of them
+unfoldable pub gather : (ℕ → Lab Cell) → (ℕ → Bool) → ℕ → ℕ → Lab (List Cell)
+gather cells picks base zero = lit []
+gather cells picks base (suc n) =
+    let rest = gather cells picks base n in
+    elim (picks (base + n)) [ true ↦ lift2 (λ xs x. xs ++ (x ∷ [])) rest (cells (base + n)) | false ↦ rest ]
+
+-- the cells that a query over table p sees: its label is that of its bounds, with the labels of all cells in the box
+unfoldable pub seen : ℕ → Lab Box → State → Lab (List Cell)
+seen p x s = via x (λ box. gather (s .cells) (in-box box) (64 * p) 64)
+
+unfoldable pub amounts-of : List Cell → List ℤ
+amounts-of [] = []
+amounts-of (c ∷ cs) =
+    let rest = amounts-of cs in
+    elim (c .present) [ true ↦ c .amount ∷ rest | false ↦ rest ]
+
+unfoldable pub count-of : List ℤ → ℤ
+count-of [] = pos 0
+count-of (z ∷ zs) = pos 1 +ℤ count-of zs
+
+unfoldable pub sum-of : List ℤ → ℤ
+sum-of [] = pos 0
+sum-of (z ∷ zs) = z +ℤ sum-of zs
+
+-- the one that beats all others, z so far
+unfoldable pub best : (ℤ → ℤ → Bool) → ℤ → List ℤ → ℤ
+best beats z [] = z
+best beats z (x ∷ xs) = best beats (cond (beats x z) x z) xs
+
+-- 0 if none is present
+unfoldable pub best-of : (ℤ → ℤ → Bool) → List ℤ → ℤ
+best-of beats [] = pos 0
+best-of beats (z ∷ zs) = best beats z zs
+
+-- 8 count of present cells, 9 their sum, 10 smallest, 11 largest
+unfoldable pub aggregate : ℕ → List Cell → ℤ
+aggregate kind cells =
+    let amounts : List ℤ = amounts-of cells in
+    cond (eqb kind 8) (count-of amounts) (cond (eqb kind 9) (sum-of amounts) (cond (eqb kind 10) (best-of ltZ amounts) (best-of (λ x y. ltZ y x) amounts)))
+
+-- 22: sums and differences are exact; a final value outside signed 32 bits stops on that expression's node
+unfoldable pub ranged : ℕ → Lab ℤ → M (Lab ℤ)
+ranged i x = need (plainly (fits-32 (x .val))) 22 i >> ret x
+
+-- what an expression gives, once its own cost is paid; children are evaluated in the order a, b, c, d
+unfoldable pub expr : (ℕ → M (Lab ℤ)) → ℕ → Exp → M (Lab ℤ)
+expr ev i (const k) = ret (lit k)
+expr ev i (var p) = look (λ s. s .vars p)
+expr ev i (add a b) = do
+  x ← ev a
+  y ← ev b
+  ranged i (lift2 _+ℤ_ x y)
+expr ev i (minus a b) = do
+  x ← ev a
+  y ← ev b
+  ranged i (lift2 _-ℤ_ x y)
+expr ev i (equal a b) = do
+  x ← ev a
+  y ← ev b
+  ranged i (lift2 equals x y)
+expr ev i (less a b) = do
+  x ← ev a
+  y ← ev b
+  ranged i (lift2 less-than x y)
+expr ev i (query kind p a b c d) = do
+  w ← ev a
+  x ← ev b
+  y ← ev c
+  z ← ev d
+  cells ← look (seen p (bounds w x y z))
+  ranged i (lift (aggregate kind) cells)
+
+-- ---- commands
+
+-- what a command runs in: the context, the user, and the least number of a trigger that its writes fire
+pub record Env : Type 0 where
+  pub ctx : Label
+  pub user : ℕ
+  pub above : ℕ
+
+-- inside if, while and trigger, the context gains a label
+unfoldable pub within-label : {A : Type 0} → Env → Lab A → Env
+within-label e x = record { ctx = union (e .ctx) (x .lab); user = e .user; above = e .above }
+
+unfoldable pub is-zero : ℤ → Bool
+is-zero (pos n) = eqb n 0
+is-zero (negsuc n) = false
+
+-- m if v is nonzero, else n
+unfoldable pub choose : ℤ → M (Unit {0}) → M (Unit {0}) → M (Unit {0})
+choose v m n = λ s. elim (is-zero v) [ true ↦ n s | false ↦ m s ]
+
+abbrev pub nat : ℤ → ℕ
+nat (pos n) = n
+nat (negsuc n) = 0
+
+-- the place of a key in table p
+unfoldable pub key-place : ℕ → Key → ℕ
+key-place p k = place p (nat (k .owner)) (nat (k .line))
+
+unfoldable pub in-table : Key → Bool
+in-table k = (leZ (pos 0) (k .owner) && leZ (k .owner) (pos 7)) && (leZ (pos 0) (k .line) && leZ (k .line) (pos 7))
+
+-- a trigger's variables: owner and line, with the context as label, the amount with its own label added, and 0 for the others
+unfoldable pub trigger-vars : Label → Key → Lab Cell → ℕ → Lab ℤ
+trigger-vars c k z =
+    update (update (update (sixteen (record { val = pos 0; lab = c })) 0 (record { val = k .owner; lab = c })) 1 (record { val = k .line; lab = c }))
+    2 (under c (lift (λ x. x .amount) z))
+
+-- n numbers from k on
+unfoldable pub numbers : ℕ → ℕ → List ℕ
+numbers k zero = []
+numbers k (suc n) = k ∷ numbers (suc k) n
+
+module _ (b : Book) where
+  -- the places of region n
+  unfoldable pub region-places : ℕ → Label
+  region-places n = region-set 8 (region-of (getD (b .regions) n no-region))
+
+  -- a grant adds its region's places to the named set, a revoke takes them out; kind 1 read, 2 write
+  unfoldable pub granted : ℕ → ℕ → ℕ → Rights → Rights
+  granted u n kind r = record {
+    read = cond (eqb kind 1) (update (r .read) u (union (r .read u) (region-places n))) (r .read);
+    write = cond (eqb kind 1) (r .write) (update (r .write) u (union (r .write u) (region-places n)));
+  }
+
+  unfoldable pub revoked : ℕ → ℕ → ℕ → Rights → Rights
+  revoked u n kind r = record {
+    read = cond (eqb kind 1) (update (r .read) u (difference (r .read u) (region-places n))) (r .read);
+    write = cond (eqb kind 1) (r .write) (update (r .write) u (difference (r .write u) (region-places n)));
+  }
+
+  abbrev pub trigger-at : ℕ → TriggerRecord
+  trigger-at n = getD (b .triggers) n no-trigger
+
+  -- whether a trigger's region holds the cell at q and its event fits
+  unfoldable pub fitting : ℕ → ℕ → TriggerRecord → Bool
+  fitting event q t = eqb (t .event) event && has (region-places (t .region)) q
+
+  module _ (labels : Bool) (rec : Env → ℕ → M (Unit {0})) where
+    -- trigger n, where it fits: with its own user's rights and its own variables; its writes fire only triggers above n
+    unfoldable pub trigger-run : Env → ℕ → ℕ → Key → Lab Cell → ℕ → M (Unit {0})
+    trigger-run e event q k z n =
+        let t = trigger-at n in
+        when (fitting event q t) (own (trigger-vars (e .ctx) k z) (rec (record { ctx = e .ctx; user = t .user; above = suc n }) (t .body)))
+
+    -- the triggers that the write of a cell fires run by number
+    unfoldable pub fire : Env → ℕ → ℕ → Key → Lab Cell → M (Unit {0})
+    fire e event q k z = each (numbers (e .above) (length (b .triggers) - e .above)) (trigger-run e event q k z)
+
+    -- put (event 1) and clear (event 2) of the cell of table p with key k, when key and new cell are known
+    unfoldable pub write-cell : Env → ℕ → ℕ → ℕ → Lab Key → Lab Cell → M (Unit {0})
+    write-cell e i event p k z = do
+      -- 23: key outside 0 to 7
+      need (plainly (in-table (k .val))) 23 i
+      -- 24: a write right for the place
+      r ← look (λ s. s .rights)
+      need (plainly (has (r .write (e .user)) (key-place p (k .val)))) 24 i
+      -- 26, and the new label: context, key label and the amount's label
+      set-cell labels i (union (e .ctx) (k .lab)) (key-place p (k .val)) (under (union (e .ctx) (k .lab)) z)
+      -- then the triggers, in context plus key label, even if clear met an absent cell
+      fire (within-label e k) event (key-place p (k .val)) (k .val) z
+
+  -- what a command does, once its own cost is paid; ev and rec run its children
+  module _ (labels : Bool) (ev : ℕ → M (Lab ℤ)) (rec : Env → ℕ → M (Unit {0})) where
+    unfoldable pub command : Env → ℕ → Cmd → M (Unit {0})
+    command e i skip = ret tt
+    -- an assigned variable's label becomes context plus expression
+    command e i (assign p a) = do
+      x ← ev a
+      set-var labels i (e .ctx) p (λ old. under (e .ctx) x)
+    command e i (seq a c) = do
+      rec e a
+      rec e c
+    -- inside if, the context gains the condition's label
+    command e i (branch a c d) = do
+      x ← ev a
+      choose (x .val) (rec (within-label e x) c) (rec (within-label e x) d)
+    -- inside while, it has the labels of all tests so far; the while is entered anew for each test
+    command e i (while a c) = do
+      x ← ev a
+      choose (x .val) (do rec (within-label e x) c; rec (within-label e x) i) (ret tt)
+    command e i (put p a c d) = do
+      x ← ev a
+      y ← ev c
+      z ← ev d
+      write-cell labels rec e i 1 p (key x y) (lift held z)
+    command e i (clear p a c) = do
+      x ← ev a
+      y ← ev c
+      write-cell labels rec e i 2 p (key x y) (lit absent)
+    -- 27: value label plus context within the user's read set, in which the public set counts
+    command e i (out p a) = do
+      x ← ev a
+      r ← look (λ s. s .rights)
+      need (inside labels (union (e .ctx) (x .lab)) (union (public-set b) (r .read p))) 27 i
+      tell i (said p (x .val)) (λ r. r)
+    -- 28: user 0; 29: a context within the public set
+    command e i (grant p a kind) = do
+      need (plainly (eqb (e .user) 0)) 28 i
+      need (inside labels (e .ctx) (public-set b)) 29 i
+      tell i (changed (cond (eqb kind 1) 2 3) p a) (granted p a kind)
+    command e i (revoke p a kind) = do
+      need (plainly (eqb (e .user) 0)) 28 i
+      need (inside labels (e .ctx) (public-set b)) 29 i
+      tell i (changed (cond (eqb kind 1) 4 5) p a) (revoked p a kind)
+    -- raise adds the region's places
+    command e i (raise p a) = set-var labels i (e .ctx) p (λ old. record { val = old .val; lab = union (old .lab) (region-places a) })
+
+  -- ---- nodes and programs
+
+  -- what entering node i costs
+  abbrev pub cost-at : ℕ → ℕ
+  cost-at i = cost-of (node-at b i .kind)
+
+  unfoldable pub eval : ℕ → ℕ → M (Lab ℤ)
+  eval zero i = λ s. stop [] (record { number = 21; node = i; obstacle = bottom }) s
+  eval (suc fuel) i = pay (cost-at i) i >> expr (eval fuel) i (exp-of (node-at b i))
+
+  unfoldable pub exec : Bool → ℕ → Env → ℕ → M (Unit {0})
+  exec labels zero e i = λ s. stop [] (record { number = 21; node = i; obstacle = bottom }) s
+  exec labels (suc fuel) e i = pay (cost-at i) i >> command labels (eval fuel) (exec labels fuel) e i (cmd-of (node-at b i))
+
+  -- a program: sixteen variables 0 of empty label, and the empty context
+  unfoldable pub program : Bool → ℕ → ProgramRecord → M (Unit {0})
+  program labels fuel p = own (sixteen (lit (pos 0))) (exec labels fuel (record { ctx = bottom; user = p .user; above = 0 }) (p .root))
+
+  -- programs follow one another; a stop ends the whole run
+  unfoldable pub run : Bool → ℕ → M (Unit {0})
+  run labels fuel = each (b .programs) (program labels fuel)

@@ -1,0 +1,9 @@
+// The answers of a call that runs a book, of which the rules and the claims of this crate speak.
+
+// A refusal with its number and the first bad record's index; a stop with its number, its node, the cost spent and the
+// trace bytes written; or a finished run with its cost and its trace bytes.
+pub enum Answer {
+    Refused(u32, usize),
+    Stopped(u32, usize, u32, usize),
+    Finished(u32, usize),
+}

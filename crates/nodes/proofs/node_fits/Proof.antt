@@ -1,0 +1,315 @@
+-- `nodes::node_fits` meets its contract: the tests in their order, and what is left of them past each.
+use mathlib.Core.Path.{_≡_, refl, sym, ap, ap₂, _∙_}
+use mathlib.Core.List.{List}
+use mathlib.Core.Bool.{Bool, _&&_, _||_, not}
+use Prim.Native.Nat.{ℕ, _+_, _*_}
+use native.Mathlib.Omega.{arith}
+use lib.Dec.{eqb}
+use borrow.Author.Needs.{needs}
+use borrow.Author.Tests.{eq-eqb, ne-eqb, not-true, not-false}
+use Rattle.book.specs.Bytes.{byte, le16, le32, signed32}
+use Rattle.book.specs.Records.{nodes-format}
+use Rattle.book.specs.Layout.{decode}
+use Rattle.book.specs.Kinds.{no-kind, constant, row-of}
+use Rattle.book.specs.Refusals.{node-at, field-fits, is-zero, node-fits}
+use Rattle.book.specs.declared.Row.{Row}
+use Rattle.book.proofs.Chains.{pass, fail}
+use Rattle.nodes.proofs.Sites.{Inside, node-is, node-inside}
+use Rattle.nodes.proofs.node_fits.Statement.{statement}
+use Rattle.nodes.proofs.node_fits.Tie as tie
+
+-- ---- the tests of node n, whose record is at byte `at`
+
+module _ (s : List ℕ) (n at : ℕ) where
+  -- the test of a field in the role that the kind's row has for it
+  abbrev field : (Row → ℕ) → ℕ → Bool
+  field role v = field-fits (decode s) n (role (row-of (byte s at))) v
+
+  -- the tests from a field on
+  abbrev from-zeros : Bool
+  from-zeros = eqb (le16 s (at + 14)) 0
+
+  abbrev from-k : Bool
+  from-k = (eqb (row-of (byte s at) .k) constant || is-zero (signed32 (le32 s (at + 10)))) && from-zeros
+
+  abbrev from-d : Bool
+  from-d = field (λ r. r .d) (le16 s (at + 8)) && from-k
+
+  abbrev from-c : Bool
+  from-c = field (λ r. r .c) (le16 s (at + 6)) && from-d
+
+  abbrev from-b : Bool
+  from-b = field (λ r. r .b) (le16 s (at + 4)) && from-c
+
+  abbrev from-a : Bool
+  from-a = field (λ r. r .a) (le16 s (at + 2)) && from-b
+
+  abbrev from-p : Bool
+  from-p = field (λ r. r .p) (byte s (at + 1)) && from-a
+
+  all : node-at (decode s) n ≡ nodes-format .read s at → node-fits (decode s) n ≡ not (eqb (row-of (byte s at) .sort) no-kind) && from-p
+  unfolding node-fits row-of nodes-format
+  all e = rw e
+
+-- ---- the kind
+
+-- the record lies in the file
+inside : (c : tie.Start) → Inside (c .args .file .now) (c .args .nodes .start + 16 * c .args .n) 16
+inside c = node-inside (c .args .file .now) (c .args .nodes) (c .args .n) (c .pre .0) (c .pre .1) (c .pre .3)
+
+mul-at : tie.Need-mul-at
+mul-at c = omega (arith, inside (c .before))
+
+add-at : tie.Need-add-at
+add-at c = omega (arith, inside (c .before))
+
+shared-slice-read-row-of : tie.Need-shared-slice-read-row-of
+shared-slice-read-row-of c = omega (arith, inside (c .before .before))
+
+row-of-requires : tie.Need-row-of-requires
+row-of-requires c κs = search needs
+
+-- what the node's tests are
+whole : (c : tie.Start) → let s = c .args .file .now in
+    let at = c .args .nodes .start + 16 * c .args .n in
+    node-fits (decode s) (c .args .n) ≡ not (eqb (row-of (byte s at) .sort) no-kind) && from-p s (c .args .n) at
+whole c = all _ _ _ (node-is (c .args .file .now) (c .args .nodes) (c .args .n) (c .pre .1) (c .pre .3))
+
+returns : tie.Need-returns
+returns c =
+    let e = ap (λ (r : Row). eqb (r .sort) no-kind) (c .before .before .row-of .ensures) in
+    let h : c .before .before .row-of .result .sort ≡ no-kind = omega (arith, c .if1 .taken) in
+    sym (whole (c .before .before .before .before .before) ∙ fail _ (ap not (sym e ∙ eq-eqb _ _ h)))
+
+-- past this test
+abbrev start : tie.Else1 → tie.Start
+start c = c .before .before .before .before .before
+
+abbrev file : tie.Else1 → List ℕ
+file c = start c .args .file .now
+
+abbrev number : tie.Else1 → ℕ
+number c = start c .args .n
+
+abbrev at : tie.Else1 → ℕ
+at c = start c .args .nodes .start + 16 * number c
+
+-- what is left of the tests
+abbrev Left : tie.Else1 → (List ℕ → ℕ → ℕ → Bool) → Type 0
+Left c tests = node-fits (decode (file c)) (number c) ≡ tests (file c) (number c) (at c)
+
+past-kind : (c : tie.Else1) → Left c from-p
+past-kind c =
+    let e = ap (λ (r : Row). eqb (r .sort) no-kind) (c .before .before .row-of .ensures) in
+    let h : c .before .before .row-of .result .sort ≡ no-kind → ⊥ = omega (arith, c .if1 .left) in
+    whole (start c) ∙ pass (ap not (sym e ∙ ne-eqb _ _ h)) refl
+
+-- a call's answer, of the row and the number that were found, is the test of the row and the number that there are
+said : (c : tie.Else1) (test : Row → ℕ → Bool) {v w : ℕ} {r : Bool} → v ≡ w → r ≡ test (c .before .before .row-of .result) v
+    → test (row-of (byte (file c) (at c))) w ≡ r
+said c test e q = sym (q ∙ ap₂ test (c .before .before .row-of .ensures) e)
+
+abbrev test-of : tie.Else1 → (Row → ℕ) → Row → ℕ → Bool
+test-of c role r v = field-fits (decode (file c)) (number c) (role r) v
+
+-- ---- p
+
+add-field-fits : tie.Need-add-field-fits
+add-field-fits c = omega (arith, inside (start c))
+
+shared-slice-read-field-fits : tie.Need-shared-slice-read-field-fits
+shared-slice-read-field-fits c = omega (arith, inside (start (c .before)))
+
+cast-field-fits : tie.Need-cast-field-fits
+cast-field-fits c = omega (arith, c .shared-slice-known3 .given (at (c .before) + 1))
+
+field-fits-requires : tie.Need-field-fits-requires
+field-fits-requires c κs = search needs
+
+returns-2 : tie.Need-returns-2
+returns-2 c =
+    let k = c .before .before .before in
+    sym (past-kind k ∙ fail _ (said k (test-of k (λ r. r .p)) refl (c .before .field-fits .ensures) ∙ not-true _ (c .if2 .taken)))
+
+abbrev kind-2 : tie.Else2 → tie.Else1
+kind-2 c = c .before .before .before
+
+past-p : (c : tie.Else2) → Left (kind-2 c) from-a
+past-p c =
+    let k = kind-2 c in
+    past-kind k ∙ pass (said k (test-of k (λ r. r .p)) refl (c .before .field-fits .ensures) ∙ not-false _ (c .if2 .left)) refl
+
+-- ---- a
+
+add-u16-at : tie.Need-add-u16-at
+add-u16-at c = omega (arith, inside (start (kind-2 c)))
+
+u16-at-requires : tie.Need-u16-at-requires
+u16-at-requires c κs = omega (arith, inside (start (kind-2 c)))
+
+field-fits-requires-2 : tie.Need-field-fits-requires-2
+field-fits-requires-2 c κs = start (kind-2 (c .before)) .pre
+
+returns-3 : tie.Need-returns-3
+returns-3 c =
+    let x = c .before .before in
+    let k = kind-2 (x .before) in
+    sym (past-p (x .before) ∙ fail _ (said k (test-of k (λ r. r .a)) (x .u16-at .ensures .0) (c .before .field-fits2 .ensures) ∙ not-true _ (c .if3 .taken)))
+
+abbrev kind-3 : tie.Else3 → tie.Else1
+kind-3 c = kind-2 (c .before .before .before)
+
+past-a : (c : tie.Else3) → Left (kind-3 c) from-b
+past-a c =
+    let x = c .before .before in
+    let k = kind-2 (x .before) in
+    past-p (x .before) ∙ pass (said k (test-of k (λ r. r .a)) (x .u16-at .ensures .0) (c .before .field-fits2 .ensures) ∙ not-false _ (c .if3 .left)) refl
+
+-- ---- b
+
+add-u16-at-2 : tie.Need-add-u16-at-2
+add-u16-at-2 c = omega (arith, inside (start (kind-3 c)))
+
+u16-at-requires-2 : tie.Need-u16-at-requires-2
+u16-at-requires-2 c κs = omega (arith, inside (start (kind-3 c)))
+
+field-fits-requires-3 : tie.Need-field-fits-requires-3
+field-fits-requires-3 c κs = start (kind-3 (c .before)) .pre
+
+returns-4 : tie.Need-returns-4
+returns-4 c =
+    let x = c .before .before in
+    let k = kind-3 (x .before) in
+    sym (past-a (x .before) ∙ fail _ (said k (test-of k (λ r. r .b)) (x .u16-at2 .ensures .0) (c .before .field-fits3 .ensures) ∙ not-true _ (c .if4 .taken)))
+
+abbrev kind-4 : tie.Else4 → tie.Else1
+kind-4 c = kind-3 (c .before .before .before)
+
+past-b : (c : tie.Else4) → Left (kind-4 c) from-c
+past-b c =
+    let x = c .before .before in
+    let k = kind-3 (x .before) in
+    past-a (x .before) ∙ pass (said k (test-of k (λ r. r .b)) (x .u16-at2 .ensures .0) (c .before .field-fits3 .ensures) ∙ not-false _ (c .if4 .left)) refl
+
+-- ---- c
+
+add-u16-at-3 : tie.Need-add-u16-at-3
+add-u16-at-3 c = omega (arith, inside (start (kind-4 c)))
+
+u16-at-requires-3 : tie.Need-u16-at-requires-3
+u16-at-requires-3 c κs = omega (arith, inside (start (kind-4 c)))
+
+field-fits-requires-4 : tie.Need-field-fits-requires-4
+field-fits-requires-4 c κs = start (kind-4 (c .before)) .pre
+
+returns-5 : tie.Need-returns-5
+returns-5 c =
+    let x = c .before .before in
+    let k = kind-4 (x .before) in
+    sym (past-b (x .before) ∙ fail _ (said k (test-of k (λ r. r .c)) (x .u16-at3 .ensures .0) (c .before .field-fits4 .ensures) ∙ not-true _ (c .if5 .taken)))
+
+abbrev kind-5 : tie.Else5 → tie.Else1
+kind-5 c = kind-4 (c .before .before .before)
+
+past-c : (c : tie.Else5) → Left (kind-5 c) from-d
+past-c c =
+    let x = c .before .before in
+    let k = kind-4 (x .before) in
+    past-b (x .before) ∙ pass (said k (test-of k (λ r. r .c)) (x .u16-at3 .ensures .0) (c .before .field-fits4 .ensures) ∙ not-false _ (c .if5 .left)) refl
+
+-- ---- d
+
+add-u16-at-4 : tie.Need-add-u16-at-4
+add-u16-at-4 c = omega (arith, inside (start (kind-5 c)))
+
+u16-at-requires-4 : tie.Need-u16-at-requires-4
+u16-at-requires-4 c κs = omega (arith, inside (start (kind-5 c)))
+
+field-fits-requires-5 : tie.Need-field-fits-requires-5
+field-fits-requires-5 c κs = start (kind-5 (c .before)) .pre
+
+returns-6 : tie.Need-returns-6
+returns-6 c =
+    let x = c .before .before in
+    let k = kind-5 (x .before) in
+    sym (past-c (x .before) ∙ fail _ (said k (test-of k (λ r. r .d)) (x .u16-at4 .ensures .0) (c .before .field-fits5 .ensures) ∙ not-true _ (c .if6 .taken)))
+
+abbrev kind-6 : tie.Else6 → tie.Else1
+kind-6 c = kind-5 (c .before .before .before)
+
+past-d : (c : tie.Else6) → Left (kind-6 c) from-k
+past-d c =
+    let x = c .before .before in
+    let k = kind-5 (x .before) in
+    past-c (x .before) ∙ pass (said k (test-of k (λ r. r .d)) (x .u16-at4 .ensures .0) (c .before .field-fits5 .ensures) ∙ not-false _ (c .if6 .left)) refl
+
+-- ---- k
+
+abbrev constant-test : Row → ℕ → Bool
+constant-test r v = eqb (r .k) constant || is-zero (signed32 v)
+
+add-constant-fits : tie.Need-add-constant-fits
+add-constant-fits c = omega (arith, inside (start (kind-6 c)))
+
+constant-fits-requires : tie.Need-constant-fits-requires
+constant-fits-requires c κs = omega (arith, inside (start (kind-6 c)))
+
+returns-7 : tie.Need-returns-7
+returns-7 c =
+    let x = c .before .before in
+    let k = kind-6 x in
+    sym (past-d x ∙ fail _ (said k constant-test {v = le32 (file k) (at k + 10)} refl (c .before .constant-fits .ensures) ∙ not-true _ (c .if7 .taken)))
+
+past-k : (c : tie.Else7) → Left (kind-6 (c .before .before)) from-zeros
+past-k c =
+    let x = c .before .before in
+    let k = kind-6 x in
+    past-d x ∙ pass (said k constant-test {v = le32 (file k) (at k + 10)} refl (c .before .constant-fits .ensures) ∙ not-false _ (c .if7 .left)) refl
+
+-- ---- the two zeros
+
+add-u16-at-5 : tie.Need-add-u16-at-5
+add-u16-at-5 c = omega (arith, inside (start (kind-6 (c .before .before))))
+
+u16-at-requires-5 : tie.Need-u16-at-requires-5
+u16-at-requires-5 c κs = omega (arith, inside (start (kind-6 (c .before .before))))
+
+returns-8 : tie.Need-returns-8
+returns-8 c = sym (past-k (c .before) ∙ ap (λ (n : ℕ). eqb n 0) (sym (c .u16-at5 .ensures .0)))
+
+pub node-fits-spec : {M : Type 1} → statement M
+node-fits-spec =
+    tie.close
+    (tie.spec
+    mul-at
+    add-at
+    shared-slice-read-row-of
+    row-of-requires
+    returns
+    add-field-fits
+    shared-slice-read-field-fits
+    cast-field-fits
+    field-fits-requires
+    returns-2
+    add-u16-at
+    u16-at-requires
+    field-fits-requires-2
+    returns-3
+    add-u16-at-2
+    u16-at-requires-2
+    field-fits-requires-3
+    returns-4
+    add-u16-at-3
+    u16-at-requires-3
+    field-fits-requires-4
+    returns-5
+    add-u16-at-4
+    u16-at-requires-4
+    field-fits-requires-5
+    returns-6
+    add-constant-fits
+    constant-fits-requires
+    returns-7
+    add-u16-at-5
+    u16-at-requires-5
+    returns-8)

@@ -1,0 +1,220 @@
+// The checks of a book file up to its rights: length, mark, sections, cells, regions, rights (refusals 2 to 7).
+ghost use mathlib.Core.Path.{_≡_};
+ghost use mathlib.Core.Bool.{_&&_, cond};
+ghost use Prim.Native.Nat.{_+_, _≤_};
+ghost use lib.Dec.{eqb, leb};
+ghost use lib.ListN.{length};
+ghost use Rattle.book.specs.Records.{cells-format, regions-format, rights-format};
+ghost use Rattle.book.specs.Layout.{count, decode};
+ghost use Rattle.book.specs.Refusals.{first, length-fits, marked, mark-fits, sections-fit, Laid, cell-fits, bad-cell, region-fits, bad-region, right-fits, bad-right};
+
+// Refusal 2: whether the file has from 36 to 60,000 bytes, and its length field says how many.
+pub fn length_fits(file: &[u8]) -> bool
+    ensures { λ r. ⌜ r ≡ length-fits (now (file .entry)) ⌝ }
+{
+    let length = file.len();
+    if length < 36 {
+        return false;
+    }
+    if 60000 < length {
+        return false;
+    }
+    book::u32_at(file, length - 4) as usize == length
+}
+
+// Whether the four bytes at `at` are those of `mark`.
+fn same4(file: &[u8], at: usize, mark: &[u8; 4]) -> bool
+    requires { ⌜ at + 4 ≤ length (now file) ⌝ }
+    ensures { λ r. ⌜ r ≡ marked (now (file .entry)) at (now (mark .entry)) ⌝ }
+{
+    if file[at] != mark[0] {
+        return false;
+    }
+    if file[at + 1] != mark[1] {
+        return false;
+    }
+    if file[at + 2] != mark[2] {
+        return false;
+    }
+    file[at + 3] == mark[3]
+}
+
+// Refusal 3: whether the trailer opens with the mark, version 1 and three zero bytes.
+pub fn mark_fits(file: &[u8]) -> bool
+    requires { ⌜ 36 ≤ length (now file) ⌝ }
+    ensures { λ r. ⌜ r ≡ mark-fits (now (file .entry)) ⌝ }
+{
+    let trailer = file.len() - 36;
+    if !same4(file, trailer, b"BKWS") {
+        return false;
+    }
+    if book::byte_at(file, trailer + 4) != 1 {
+        return false;
+    }
+    book::u24_at(file, trailer + 5) == 0
+}
+
+// The most records of each section, and the bytes of each record.
+const MOST: [usize; 6] = [512, 64, 64, 1024, 8, 8];
+
+const SIZE: [usize; 6] = [8, 8, 4, 16, 4, 8];
+
+// Refusal 4: whether the sections follow one another from byte 0 to the trailer, none with more than its most records.
+pub fn sections_fit(file: &[u8]) -> bool
+    requires { ⌜ (36 ≤ length (now file)) × (length (now file) ≤ 60000) ⌝ }
+    ensures { λ r. ⌜ r ≡ sections-fit (now (file .entry)) ⌝ }
+{
+    let length = file.len();
+    let mut end: usize = 0;
+    let mut pair: usize = 0;
+    while pair < 6 {
+        let at = length - 28 + 4 * pair;
+        if book::u16_at(file, at) + end != length {
+            return false;
+        }
+        let count = book::u16_at(file, at + 2);
+        if MOST[pair] < count {
+            return false;
+        }
+        end = end + count * SIZE[pair];
+        pair += 1;
+    }
+    end == length - 36
+}
+
+// Whether table, owner and line of the cell record at `at` are 0 to 7, and the byte after them is 0.
+fn cell_fits(file: &[u8], at: usize) -> bool
+    requires { ⌜ at + 8 ≤ length (now file) ⌝ }
+    ensures { λ r. ⌜ r ≡ cell-fits (cells-format .read (now (file .entry)) at) ⌝ }
+{
+    if 7 < book::byte_at(file, at) {
+        return false;
+    }
+    if 7 < book::byte_at(file, at + 1) {
+        return false;
+    }
+    if 7 < book::byte_at(file, at + 2) {
+        return false;
+    }
+    book::byte_at(file, at + 3) == 0
+}
+
+// Refusal 5: the first bad cell record, or the number of cells; `least` is the least place that the next record may have.
+pub fn first_bad_cell(file: &[u8]) -> usize
+    requires { ⌜ Laid (now file) ⌝ }
+    ensures { λ r. ⌜ r ≡ first (bad-cell (decode (now (file .entry)) .cells)) (count (now (file .entry)) 0) ⌝ }
+{
+    let cells = book::section_at(file, 0);
+    let start = cells.start;
+    let count = cells.count;
+    let mut least: usize = 0;
+    let mut cell: usize = 0;
+    while cell < count {
+        let at = start + cell * 8;
+        if !cell_fits(file, at) {
+            return cell;
+        }
+        let place = book::place_at(file, at);
+        if place < least {
+            return cell;
+        }
+        least = place + 1;
+        cell += 1;
+    }
+    count
+}
+
+// Whether first ≤ last ≤ 7.
+fn range_fits(range: places::Range) -> bool
+    ensures { λ r. ⌜ r ≡ leb (range .first) (range .last) && leb (range .last) 7 ⌝ }
+{
+    let first = range.first;
+    let last = range.last;
+    if last < first {
+        return false;
+    }
+    last <= 7
+}
+
+// Whether the region record at `at` has a table from 0 to 7, two ranges that fit, and three zero bytes.
+fn region_fits(file: &[u8], at: usize) -> bool
+    requires { ⌜ at + 8 ≤ length (now file) ⌝ }
+    ensures { λ r. ⌜ r ≡ region-fits (regions-format .read (now (file .entry)) at) ⌝ }
+{
+    let region = book::region_at(file, at);
+    let table = region.table;
+    let owners = region.owners;
+    let lines = region.lines;
+    if 7 < table {
+        return false;
+    }
+    if !range_fits(owners) {
+        return false;
+    }
+    if !range_fits(lines) {
+        return false;
+    }
+    book::u24_at(file, at + 5) == 0
+}
+
+// Refusal 6: the first bad region record, or the number of regions.
+pub fn first_bad_region(file: &[u8]) -> usize
+    requires { ⌜ Laid (now file) ⌝ }
+    ensures { λ r. ⌜ r ≡ first (bad-region (decode (now (file .entry)) .regions)) (count (now (file .entry)) 1) ⌝ }
+{
+    let regions = book::section_at(file, 1);
+    let start = regions.start;
+    let count = regions.count;
+    let mut region: usize = 0;
+    while region < count {
+        if !region_fits(file, start + region * 8) {
+            return region;
+        }
+        region += 1;
+    }
+    count
+}
+
+// The highest user that a right of this kind may name: 0 for a public one.
+fn last_user(kind: usize) -> usize
+    ensures { λ r. ⌜ r ≡ cond (eqb kind 0) 0 7 ⌝ }
+{
+    if kind == 0 { 0 } else { 7 }
+}
+
+// Whether the right record at `at` has a kind, a user and a region that there are, and a zero byte, in a book of `regions` regions.
+fn right_fits(file: &[u8], at: usize, regions: usize) -> bool
+    requires { ⌜ (at + 4 ≤ length (now file)) × (regions ≡ count (now file) 1) ⌝ }
+    ensures { λ r. ⌜ r ≡ right-fits (decode (now (file .entry))) (rights-format .read (now (file .entry)) at) ⌝ }
+{
+    let kind = book::byte_at(file, at);
+    if 2 < kind {
+        return false;
+    }
+    if last_user(kind) < book::byte_at(file, at + 1) {
+        return false;
+    }
+    if regions <= book::byte_at(file, at + 2) {
+        return false;
+    }
+    book::byte_at(file, at + 3) == 0
+}
+
+// Refusal 7: the first bad right record, or the number of rights.
+pub fn first_bad_right(file: &[u8]) -> usize
+    requires { ⌜ Laid (now file) ⌝ }
+    ensures { λ r. ⌜ r ≡ first (bad-right (decode (now (file .entry)))) (count (now (file .entry)) 2) ⌝ }
+{
+    let regions = book::section_at(file, 1).count;
+    let rights = book::section_at(file, 2);
+    let start = rights.start;
+    let count = rights.count;
+    let mut right: usize = 0;
+    while right < count {
+        if !right_fits(file, start + right * 4, regions) {
+            return right;
+        }
+        right += 1;
+    }
+    count
+}

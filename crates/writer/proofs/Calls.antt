@@ -1,0 +1,43 @@
+-- What writing leaves, by its verdict.
+use mathlib.Core.Path.{_≡_, refl, sym, ap, _∙_}
+use mathlib.Core.List.{List, _++_}
+use mathlib.Core.Bool.{true, false}
+use Prim.Native.Nat.{ℕ}
+use lib.IntN.{ℤ}
+use lib.ListN.{length, drop}
+use Rattle.book.specs.Refusals.{verdict}
+use Rattle.book.specs.declared.Verdict.{Verdict}
+use Rattle.book.specs.declared.Verdict.the-variants.{Accepted, Refused}
+use Rattle.book.proofs.Verdicts.{passes, stops, need-passes, need-stops}
+use Rattle.loader.specs.Load.{where-accepted}
+use Rattle.writer.specs.Write.{write-fits, write-verdict, rewritten, write-answer, WriteCall, write-call}
+use Rattle.writer.specs.declared.Written.the-variants as writtens
+
+module _ (file : List ℕ) (amounts : List ℤ) (presence out : List ℕ) where
+  abbrev pub written : Verdict → WriteCall
+  written v = record {
+    answer = write-answer v (rewritten file amounts presence);
+    out = where-accepted v (rewritten file amounts presence ++ drop (length (rewritten file amounts presence)) out) out;
+  }
+
+  pub write-by : write-call file amounts presence out ≡ written (write-verdict file amounts presence out)
+  unfolding write-call
+  write-by = refl
+
+  pub write-lent : write-fits amounts presence out ≡ false → written (Refused 1 0) ≡ write-call file amounts presence out
+  unfolding write-verdict
+  write-lent e = sym (write-by ∙ ap written (stops (verdict file) (need-stops 1 e)))
+
+  module _ (fit : write-fits amounts presence out ≡ true) (v : Verdict) (e : v ≡ verdict file) where
+    write-file : written v ≡ write-call file amounts presence out
+    unfolding write-verdict
+    write-file = ap written e ∙ sym (write-by ∙ ap written (passes (verdict file) (need-passes 1 fit)))
+
+    pub write-refused : (number index : ℕ) → v ≡ Refused number index → record { answer = writtens.Refused number index; out = out } ≡ write-call file amounts presence out
+    write-refused number index q = rw q at write-file
+
+    pub write-accepted : (n : ℕ) (o : List ℕ) → v ≡ Accepted → n ≡ length (rewritten file amounts presence) → o ≡ rewritten file amounts presence ++ drop n out
+        → record { answer = writtens.Wrote n; out = o } ≡ write-call file amounts presence out
+    write-accepted n o q x y =
+        let z : o ≡ rewritten file amounts presence ++ drop (length (rewritten file amounts presence)) out = y ∙ rw x in
+        (λ i. record { answer = writtens.Wrote (x i); out = z i }) ∙ (rw q at write-file)

@@ -1,0 +1,52 @@
+-- Writing: from all that the call is given to all that it leaves.
+use mathlib.Core.List.{List, [], _∷_, _++_}
+use mathlib.Core.Bool.{Bool, _&&_}
+use Prim.Native.Nat.{ℕ, _-_}
+use lib.Dec.{eqb, leb}
+use lib.IntN.{ℤ}
+use lib.ListN.{length, take, drop}
+use Rattle.book.specs.Bytes.{two, four}
+use Rattle.book.specs.Layout.{decode}
+use Rattle.book.specs.Refusals.{mark, and-then, need, verdict}
+use Rattle.book.specs.Encode.{encode, with-cells}
+use Rattle.loader.specs.Load.{where-accepted}
+use Rattle.book.specs.declared.Verdict.{Verdict}
+use Rattle.writer.specs.declared.Written.{Written}
+use Rattle.book.specs.declared.Verdict.the-variants as verdicts
+use Rattle.writer.specs.declared.Written.the-variants as writtens
+
+-- 1: 512 amounts, 8 presence words, at least 60,000 bytes of output
+abbrev pub write-fits : List ℤ → List ℕ → List ℕ → Bool
+write-fits amounts presence out = eqb (length amounts) 512 && (eqb (length presence) 8 && leb 60000 (length out))
+
+-- refusal 1, then 2 to 10
+unfoldable pub write-verdict : List ℕ → List ℤ → List ℕ → List ℕ → Verdict
+write-verdict file amounts presence out = and-then (need 1 (write-fits amounts presence out)) (verdict file)
+
+-- the book with its cells replaced
+unfoldable pub rewritten : (file : List ℕ) (amounts : List ℤ) (presence : List ℕ) → List ℕ
+rewritten file amounts presence = encode (with-cells amounts presence (decode file))
+
+-- the trailer of a book of `whole` bytes with `cells` cells, whose other pairs are those of the file
+abbrev pub trailer-like : (file : List ℕ) (whole cells : ℕ) → List ℕ
+trailer-like file whole cells =
+    mark ++ (1 ∷ 0 ∷ 0 ∷ 0 ∷ []) ++ two whole ++ two cells ++ take 20 (drop (length file - 24) file) ++ four whole
+
+-- the answer: the length written, or the refusal
+abbrev pub write-answer : Verdict → List ℕ → Written
+write-answer verdicts.Accepted new = writtens.Wrote (length new)
+write-answer (verdicts.Refused number index) new = writtens.Refused number index
+
+-- the answer, and the output afterwards; bytes past the book stay
+pub record WriteCall : Type 0 where
+  pub answer : Written
+  pub out : List ℕ
+
+unfoldable pub write-call : (file : List ℕ) (amounts : List ℤ) (presence out : List ℕ) → WriteCall
+write-call file amounts presence out =
+    let v : Verdict = write-verdict file amounts presence out in
+    let new : List ℕ = rewritten file amounts presence in
+    record {
+      answer = write-answer v new;
+      out = where-accepted v (new ++ drop (length new) out) out;
+    }
