@@ -1,4 +1,4 @@
--- What acceptance tells of the cells, regions and rights that the code reads.
+-- What acceptance tells of the cells, regions and rights that the code reads. Assumes nothing.
 use mathlib.Core.Path.{_≡_}
 use mathlib.Core.List.{List}
 use mathlib.Core.Bool.{true}

@@ -1,4 +1,4 @@
--- What loading leaves, by its verdict.
+-- What loading leaves, by its verdict. Assumes nothing.
 use mathlib.Core.Path.{_≡_, refl, sym, ap, _∙_}
 use mathlib.Core.List.{List}
 use mathlib.Core.Bool.{true, false}

@@ -1,4 +1,4 @@
--- A loop that fills a list from the front with another, one store a turn: after i turns it is `take i s ++ drop i d`.
+-- A loop that fills a list from the front with another, one store a turn: after i turns it is `take i s ++ drop i d`. Assumes nothing.
 use mathlib.Core.Path.{_≡_, _∙_}
 use mathlib.Core.List.{List, _++_, append-nil}
 use Prim.Native.Nat.{ℕ, suc, _+_, _≤_, _<_}

@@ -1,4 +1,4 @@
--- Loading the cells: one record more, from the last to the first.
+-- Loading the cells: one record more, from the last to the first. Assumes nothing.
 use mathlib.Core.Path.{_≡_, refl, sym, ap, _∙_}
 use mathlib.Core.List.{List, [], _∷_}
 use mathlib.Core.Bool.{Bool, true, false, _||_, cond}
@@ -33,11 +33,11 @@ abbrev pub presence-of : List CellRecord → List ℕ
 presence-of cs = set-of 8 (λ p. is-there (amount-at cs p))
 
 -- of no records
-pub amounts-none : tabulate (λ p. pos 0) 512 ≡ amounts-of []
+amounts-none : tabulate (λ p. pos 0) 512 ≡ amounts-of []
 unfolding amount-at
 amounts-none = refl
 
-pub presence-none : replicate 8 0 ≡ presence-of []
+presence-none : replicate 8 0 ≡ presence-of []
 unfolding amount-at
 presence-none = sym (set-of-none 8)
 
@@ -50,7 +50,7 @@ eqb-sym a b = go (ℕ-discrete a b)
     go (yes e) = rw e
     go (no e) = ne-eqb a b e ∙ sym (ne-eqb b a (λ q. e (sym q)))
 
-zero-if : (t : Bool) (z : ℤ) (x : Option ℤ) → cond t z (or-zero x) ≡ or-zero (cond t (some z) x)
+pub zero-if : (t : Bool) (z : ℤ) (x : Option ℤ) → cond t z (or-zero x) ≡ or-zero (cond t (some z) x)
 zero-if true z x = refl
 zero-if false z x = refl
 
@@ -58,13 +58,13 @@ there-if : (t : Bool) (z : ℤ) (x : Option ℤ) → t || is-there x ≡ is-ther
 there-if true z x = refl
 there-if false z x = refl
 
-pub amounts-turn : (c : CellRecord) (cs : List CellRecord) → set (amounts-of cs) (place-of c) (c .amount) ≡ amounts-of (c ∷ cs)
+amounts-turn : (c : CellRecord) (cs : List CellRecord) → set (amounts-of cs) (place-of c) (c .amount) ≡ amounts-of (c ∷ cs)
 unfolding amount-at
 amounts-turn c cs =
     set-tabulate (λ p. or-zero (amount-at cs p)) 512 (place-of c) (c .amount)
     ∙ tabulate-cong _ _ 512 (λ p h. zero-if (eqb (place-of c) p) (c .amount) (amount-at cs p))
 
-pub presence-turn : (c : CellRecord) (cs : List CellRecord) → union (single 8 (place-of c)) (presence-of cs) ≡ presence-of (c ∷ cs)
+presence-turn : (c : CellRecord) (cs : List CellRecord) → union (single 8 (place-of c)) (presence-of cs) ≡ presence-of (c ∷ cs)
 unfolding amount-at single
 presence-turn c cs =
     union-set-of 8 (λ p. eqb p (place-of c)) (λ p. is-there (amount-at cs p))

@@ -1,4 +1,4 @@
--- The rights at the start: one record more, from the last to the first.
+-- The rights at the start: one record more, from the last to the first. Assumes nothing.
 use mathlib.Core.Path.{_≡_, refl, sym, ap, _∙_}
 use mathlib.Core.List.{List, [], _∷_}
 use Prim.Native.Nat.{ℕ, suc, _+_, _-_, _*_, _≤_, _<_}
@@ -27,7 +27,7 @@ abbrev pub held : Book → ℕ → ℕ → List RightRecord → List ℕ
 held b kind user rs = set-of 8 (rights-hold b kind user rs)
 
 module _ (b : Book) (kind user : ℕ) where
-  pub held-none : replicate 8 0 ≡ held b kind user []
+  held-none : replicate 8 0 ≡ held b kind user []
   unfolding rights-hold
   held-none = sym (set-of-none 8)
 
@@ -36,18 +36,18 @@ module _ (b : Book) (kind user : ℕ) where
     region = region-of (getD (b .regions) (r .region) no-region)
 
     -- a record of this kind and user adds its region's places
-    pub held-more : r .kind ≡ kind → r .user ≡ user → union (region-set 8 region) (held b kind user rs) ≡ held b kind user (r ∷ rs)
+    held-more : r .kind ≡ kind → r .user ≡ user → union (region-set 8 region) (held b kind user rs) ≡ held b kind user (r ∷ rs)
     unfolding rights-hold region-set
     held-more k u =
         union-set-of 8 (in-region region) (rights-hold b kind user rs)
         ∙ set-of-cong _ _ 8 (λ p h. sym (rw (eq-eqb (r .kind) kind k, eq-eqb (r .user) user u)))
 
     -- another record adds nothing
-    pub held-kind : (r .kind ≡ kind → ⊥) → held b kind user rs ≡ held b kind user (r ∷ rs)
+    held-kind : (r .kind ≡ kind → ⊥) → held b kind user rs ≡ held b kind user (r ∷ rs)
     unfolding rights-hold
     held-kind k = set-of-cong _ _ 8 (λ p h. sym (rw (ne-eqb (r .kind) kind k)))
 
-    pub held-user : r .kind ≡ kind → (r .user ≡ user → ⊥) → held b kind user rs ≡ held b kind user (r ∷ rs)
+    held-user : r .kind ≡ kind → (r .user ≡ user → ⊥) → held b kind user rs ≡ held b kind user (r ∷ rs)
     unfolding rights-hold
     held-user k u = set-of-cong _ _ 8 (λ p h. sym (rw (eq-eqb (r .kind) kind k, ne-eqb (r .user) user u)))
 

@@ -5,23 +5,17 @@ use Prim.Native.Nat.{ℕ, _+_, _*_, _≤_, _<_}
 use native.Mathlib.Nat.{mul-comm}
 use native.Mathlib.Omega.{arith}
 use lib.ListN.{length, getD}
-use Rattle.book.specs.Records.{Format, nodes-format, programs-format, triggers-format}
-use Rattle.book.specs.Layout.{distance, count, section, section-records, decode}
+use Rattle.book.specs.Records.{nodes-format, programs-format, triggers-format}
+use Rattle.book.specs.Layout.{distance, count, section, decode}
 use Rattle.book.specs.Refusals.{Laid, node-at, no-program, no-trigger}
 use Rattle.book.specs.declared.Section.{Section}
-use Rattle.book.proofs.Records.{record-at}
+use Rattle.book.proofs.Decoded.{node-read, program-read, trigger-read}
 use Rattle.book.proofs.Accepted.{laid, nodes-inside, programs-inside, triggers-inside}
 
 -- a record of this size at this byte lies in the file
 pub record Inside (s : List ℕ) (at size : ℕ) : Type 0 where
   pub end : at + size ≤ length s
   pub short : length s ≤ 60000
-
--- record i of section j
-section-record : {A : Type 0} (f : Format A) (j : ℕ) (s : List ℕ) (i : ℕ) (d : A) → i < count s j
-    → getD (section-records f j s) i d ≡ f .read s (section s j .start + f .size * i)
-section-record f j s i d h =
-    record-at f (count s j) (section s j .start) s i d h ∙ ap (λ (n : ℕ). f .read s (section s j .start + n)) (mul-comm i (f .size))
 
 module _ (s : List ℕ) where
   -- what reading a section's pair needs
@@ -33,16 +27,13 @@ module _ (s : List ℕ) where
 
   module _ (at : Section) (i : ℕ) where
     pub node-is : at ≡ section s 3 → i < count s 3 → node-at (decode s) i ≡ nodes-format .read s (at .start + 16 * i)
-    unfolding decode nodes-format
-    node-is e h = rw e (section-record nodes-format 3 s i _ h)
+    node-is e h = rw e (node-read s i _ h ∙ ap (λ (n : ℕ). nodes-format .read s (section s 3 .start + n)) (mul-comm i 16))
 
     pub program-is : at ≡ section s 4 → i < count s 4 → getD (decode s .programs) i no-program ≡ programs-format .read s (at .start + 4 * i)
-    unfolding decode programs-format
-    program-is e h = rw e (section-record programs-format 4 s i _ h)
+    program-is e h = rw e (program-read s i _ h ∙ ap (λ (n : ℕ). programs-format .read s (section s 4 .start + n)) (mul-comm i 4))
 
     pub trigger-is : at ≡ section s 5 → i < count s 5 → getD (decode s .triggers) i no-trigger ≡ triggers-format .read s (at .start + 8 * i)
-    unfolding decode triggers-format
-    trigger-is e h = rw e (section-record triggers-format 5 s i _ h)
+    trigger-is e h = rw e (trigger-read s i _ h ∙ ap (λ (n : ℕ). triggers-format .read s (section s 5 .start + n)) (mul-comm i 8))
 
     -- each record lies in the file
     module _ (l : Laid s) where

@@ -1,4 +1,4 @@
--- Writing the whole book: the parts of it, and the steps of the code.
+-- Writing the whole book: the parts of it, and the steps of the code. Assumes nothing.
 use mathlib.Core.Path.{_≡_, refl, sym, ap, ap₂, _∙_}
 use mathlib.Core.List.{List, [], _∷_, _++_, append-assoc}
 use Prim.Native.Nat.{ℕ, _+_, _-_, _*_, _/_, _≤_}
@@ -13,7 +13,8 @@ use Rattle.book.specs.Encode.{extents, distance-to-end, pairs, other-sections, 
 use Rattle.book.specs.declared.Verdict.the-variants.{Accepted}
 use Rattle.book.proofs.Decoded.{count-regions, count-rights, count-nodes, count-programs, count-triggers}
 use Rattle.book.proofs.Accepted.{accepted}
-use Rattle.writer.specs.Write.{rewritten, trailer-like}
+use Rattle.writer.specs.Write.{rewritten}
+use Rattle.writer.specs.Steps.{trailer-like}
 use Rattle.writer.proofs.Codec.{length-section, cells-codec}
 use Rattle.writer.proofs.Trailer.{Counts, counts-of, from-cells, from-regions, trailer-of, found, found-few, found-trailed, later-pairs}
 use Rattle.loader.proofs.Accepted.{placed}

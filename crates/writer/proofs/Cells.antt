@@ -1,4 +1,4 @@
--- Cell records: those of an accepted file, and those made from lent memory.
+-- Cell records: those of an accepted file, and those made from lent memory. Assumes nothing.
 use mathlib.Core.Path.{_≡_, refl, sym, ap, ap₂, _∙_}
 use mathlib.Core.List.{List, [], _∷_, _++_}
 use mathlib.Core.Bool.{Bool, true, false, cond, not}
@@ -29,7 +29,7 @@ use Rattle.writer.proofs.Codec.{Kept, AllKept, more, four-back}
 use Rattle.writer.proofs.Codec.{none as none-kept}
 
 -- a cell record is made of its place and its amount
-pub record-is : {c : CellRecord} → Key c → cell-record (place-of c) (c .amount) ≡ c
+record-is : {c : CellRecord} → Key c → cell-record (place-of c) (c .amount) ≡ c
 record-is {c} k i = record {
   table = table-of-place (c .table) (c .owner) (c .line) (omega arith) (omega arith) i;
   owner = owner-of-place (c .table) (c .owner) (c .line) (omega arith) (omega arith) i;

@@ -1,5 +1,5 @@
 -- Records and their bytes: what is read is written as it stood, and what is written is read back. Stated once for a format, and
--- for the sections of any format; then the six formats.
+-- for the sections of any format; then the six formats. Assumes nothing.
 use mathlib.Core.Path.{_≡_, refl, sym, ap, ap₂, _∙_}
 use mathlib.Core.List.{List, [], _∷_, _++_, append-assoc}
 use Prim.Native.Nat.{ℕ, zero, suc, _+_, _*_, _/_, _%_, _≤_, _<_}
@@ -70,6 +70,7 @@ spread-is zero i s h = refl
 spread-is (suc n) i s h =
     rw (drop-cons s i 0 (omega arith)) (ap (λ (l : List ℕ). byte s i ∷ l) (spread-is n (suc i) s (omega arith)))
 
+-- the laws of a format
 pub record Codec {A : Type 0} (f : Format A) : Type 0 where
   -- as many bytes are written as the format says
   pub width : (a : A) → length (f .write a) ≡ f .size

@@ -1,4 +1,4 @@
--- A book's bytes are read back as the book, and an accepted file is what is written of its book.
+-- A book's bytes are read back as the book, and an accepted file is what is written of its book. Assumes nothing.
 use mathlib.Core.Path.{_≡_, refl, sym, ap, ap₂, _∙_}
 use mathlib.Core.List.{List, [], _++_, append-assoc}
 use mathlib.Core.Bool.{true}

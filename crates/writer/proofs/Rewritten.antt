@@ -1,4 +1,4 @@
--- The book with the cells of lent memory for its own: it is read back as it was written, and accepted.
+-- The book with the cells of lent memory for its own: it is read back as it was written, and accepted. Assumes nothing.
 use mathlib.Core.Path.{_≡_, refl, ap, _∙_, fun-ext}
 use mathlib.Core.List.{List}
 use mathlib.Core.Bool.{Bool, true, false, _||_}

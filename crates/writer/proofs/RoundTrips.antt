@@ -1,4 +1,4 @@
--- The two round trips between a book's file and lent memory.
+-- The two round trips between a book's file and lent memory. Assumes nothing.
 use mathlib.Core.Path.{_≡_, refl, sym, ap, _∙_}
 use mathlib.Core.List.{List, _++_}
 use mathlib.Core.Bool.{Bool, true, false, cond}
@@ -33,6 +33,7 @@ use Rattle.writer.specs.Claims.{Amounts, SameBytes, present-amounts, Rew
 use Rattle.writer.proofs.Cells.{good-rising, cells-amount, Holds, cells-are}
 use Rattle.writer.proofs.Files.{encode-decode, decode-encode}
 use Rattle.book.proofs.Tabulate.{length-tabulate, tabulate-at, tabulate-cong}
+use Rattle.loader.proofs.Loads.{zero-if}
 use Rattle.loader.proofs.Calls.{lent, load-accepted}
 use Rattle.writer.proofs.Calls.{write-accepted, written, write-by}
 use Rattle.writer.proofs.Rewritten.{sound, new-accepted}
@@ -118,12 +119,8 @@ module _ (file : List ℕ) (b : Bytes file) (v : verdict file ≡ Accepted) (amo
   amounts-back : present-amounts amounts presence ≡ start-amounts (decode new)
   unfolding present-amounts start-amounts with-cells
   amounts-back =
-      tabulate-cong _ _ 512 (λ p h. zero-if (has presence p) (getD amounts p (pos 0)) ∙ sym (ap or-zero (amount-is p h)))
+      tabulate-cong _ _ 512 (λ p h. zero-if (has presence p) (getD amounts p (pos 0)) none ∙ sym (ap or-zero (amount-is p h)))
       ∙ ap start-amounts (sym decoded)
-    where
-      zero-if : (t : Bool) (z : ℤ) → cond t z (pos 0) ≡ or-zero (cond t (some z) none)
-      zero-if true z = refl
-      zero-if false z = refl
 
   presence-back : presence ≡ start-presence (decode new)
   unfolding start-presence with-cells

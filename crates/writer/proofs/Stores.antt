@@ -1,4 +1,4 @@
--- Output that is written part by part: `new` is stored from `at` on, and the other bytes stay.
+-- Output that is written part by part: `new` is stored from `at` on, and the other bytes stay. Assumes nothing.
 use mathlib.Core.Path.{_≡_, refl, sym, ap, ap₂, _∙_}
 use mathlib.Core.List.{List, [], _∷_, _++_, append-assoc}
 use Prim.Native.Nat.{ℕ, _+_, _≤_}

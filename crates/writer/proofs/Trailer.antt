@@ -1,4 +1,4 @@
--- The trailer: what is read of one that was written, and what is written of one that was accepted.
+-- The trailer: what is read of one that was written, and what is written of one that was accepted. Assumes nothing.
 use mathlib.Core.Path.{_≡_, refl, sym, ap, ap₂, _∙_}
 use mathlib.Core.List.{List, [], _∷_, _++_}
 use mathlib.Core.Bool.{true}
@@ -231,13 +231,13 @@ module _ (s : List ℕ) (b : Bytes s) (long : 36 ≤ length s) (o : sections-fit
   byte-at : (base k at v : ℕ) → at ≡ base + k → byte s at ≡ v → v ≡ byte (drop base s) k
   byte-at base k at v e q = sym q ∙ rw (getD-drop, e)
 
-  pub record Marked : Type 0 where
-    pub m0 : byte s (trailer s) ≡ 66
-    pub m1 : byte s (trailer s + 1) ≡ 75
-    pub m2 : byte s (trailer s + 2) ≡ 87
-    pub m3 : byte s (trailer s + 3) ≡ 83
-    pub version : byte s (trailer s + 4) ≡ 1
-    pub zeros : le24 s (trailer s + 5) ≡ 0
+  record Marked : Type 0 where
+    m0 : byte s (trailer s) ≡ 66
+    m1 : byte s (trailer s + 1) ≡ 75
+    m2 : byte s (trailer s + 2) ≡ 87
+    m3 : byte s (trailer s + 3) ≡ 83
+    version : byte s (trailer s + 4) ≡ 1
+    zeros : le24 s (trailer s + 5) ≡ 0
 
   is-marked : mark-fits s ≡ true → Marked
   unfolding mark-fits marked

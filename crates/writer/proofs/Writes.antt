@@ -1,4 +1,4 @@
--- Writing the cells: one place more; then the whole book.
+-- Writing the cells: one place more. Assumes nothing.
 use mathlib.Core.Path.{_≡_, refl, sym, ap, _∙_}
 use mathlib.Core.List.{List, [], _∷_, _++_, append-nil, append-assoc}
 use mathlib.Core.Bool.{true, false}

@@ -1,13 +1,12 @@
 -- Writing: from all that the call is given to all that it leaves.
-use mathlib.Core.List.{List, [], _∷_, _++_}
+use mathlib.Core.List.{List, _++_}
 use mathlib.Core.Bool.{Bool, _&&_}
-use Prim.Native.Nat.{ℕ, _-_}
+use Prim.Native.Nat.{ℕ}
 use lib.Dec.{eqb, leb}
 use lib.IntN.{ℤ}
-use lib.ListN.{length, take, drop}
-use Rattle.book.specs.Bytes.{two, four}
+use lib.ListN.{length, drop}
 use Rattle.book.specs.Layout.{decode}
-use Rattle.book.specs.Refusals.{mark, and-then, need, verdict}
+use Rattle.book.specs.Refusals.{and-then, need, verdict}
 use Rattle.book.specs.Encode.{encode, with-cells}
 use Rattle.loader.specs.Load.{where-accepted}
 use Rattle.book.specs.declared.Verdict.{Verdict}
@@ -26,11 +25,6 @@ write-verdict file amounts presence out = and-then (need 1 (write-fits amounts p
 -- the book with its cells replaced
 unfoldable pub rewritten : (file : List ℕ) (amounts : List ℤ) (presence : List ℕ) → List ℕ
 rewritten file amounts presence = encode (with-cells amounts presence (decode file))
-
--- the trailer of a book of `whole` bytes with `cells` cells, whose other pairs are those of the file
-abbrev pub trailer-like : (file : List ℕ) (whole cells : ℕ) → List ℕ
-trailer-like file whole cells =
-    mark ++ (1 ∷ 0 ∷ 0 ∷ 0 ∷ []) ++ two whole ++ two cells ++ take 20 (drop (length file - 24) file) ++ four whole
 
 -- the answer: the length written, or the refusal
 abbrev pub write-answer : Verdict → List ℕ → Written

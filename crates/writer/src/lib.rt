@@ -8,7 +8,8 @@ ghost use Rattle.book.specs.Records.{section-bytes, cells-format};
 ghost use Rattle.book.specs.Refusals.{verdict};
 ghost use Rattle.book.specs.Encode.{cell-record, cells-from};
 ghost use Rattle.book.specs.declared.Verdict.the-variants.{Accepted};
-ghost use Rattle.writer.specs.Write.{rewritten, trailer-like, write-call};
+ghost use Rattle.writer.specs.Write.{rewritten, write-call};
+ghost use Rattle.writer.specs.Steps.{trailer-like};
 
 // What writing a book answers: the refusal's number and index, or the length written.
 pub enum Written {
