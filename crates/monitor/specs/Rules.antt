@@ -105,24 +105,31 @@ ranged i x = need (plainly (fits-32 (x .val))) 22 i >> ret x
 
 -- what an expression gives, once its own cost is paid; children are evaluated in the order a, b, c, d
 unfoldable pub expr : (ℕ → M (Lab ℤ)) → ℕ → Exp → M (Lab ℤ)
+-- 1 constant k
 expr ev i (const k) = ret (lit k)
+-- 2 variable p
 expr ev i (var p) = look (λ s. s .vars p)
+-- 3 a+b
 expr ev i (add a b) = do
   x ← ev a
   y ← ev b
   ranged i (lift2 _+ℤ_ x y)
+-- 4 a−b
 expr ev i (minus a b) = do
   x ← ev a
   y ← ev b
   ranged i (lift2 _-ℤ_ x y)
+-- 5 a equals b: 1 or 0
 expr ev i (equal a b) = do
   x ← ev a
   y ← ev b
   ranged i (lift2 equals x y)
+-- 6 a less than b: 1 or 0
 expr ev i (less a b) = do
   x ← ev a
   y ← ev b
   ranged i (lift2 less-than x y)
+-- 8 to 11, over table p, owners a to b, lines c to d; the labels of all cells in the region, present or absent
 expr ev i (query kind p a b c d) = do
   w ← ev a
   x ← ev b
@@ -173,10 +180,10 @@ unfoldable pub numbers : ℕ → ℕ → List ℕ
 numbers k zero = []
 numbers k (suc n) = k ∷ numbers (suc k) n
 
-module _ (b : Book) where
+module _ (book : Book) where
   -- the places of region n
   unfoldable pub region-places : ℕ → Label
-  region-places n = region-set 8 (region-of (getD (b .regions) n no-region))
+  region-places n = region-set 8 (region-of (getD (book .regions) n no-region))
 
   -- a grant adds its region's places to the named set, a revoke takes them out; kind 1 read, 2 write
   unfoldable pub granted : ℕ → ℕ → ℕ → Rights → Rights
@@ -192,7 +199,7 @@ module _ (b : Book) where
   }
 
   abbrev pub trigger-at : ℕ → TriggerRecord
-  trigger-at n = getD (b .triggers) n no-trigger
+  trigger-at n = getD (book .triggers) n no-trigger
 
   -- whether a trigger's region holds the cell at q and its event fits
   unfoldable pub fitting : ℕ → ℕ → TriggerRecord → Bool
@@ -207,7 +214,7 @@ module _ (b : Book) where
 
     -- the triggers that the write of a cell fires run by number
     unfoldable pub fire : Env → ℕ → ℕ → Key → Lab Cell → M (Unit {0})
-    fire e event q k z = each (numbers (e .above) (length (b .triggers) - e .above)) (trigger-run e event q k z)
+    fire e event q k z = each (numbers (e .above) (length (book .triggers) - e .above)) (trigger-run e event q k z)
 
     -- put (event 1) and clear (event 2) of the cell of table p with key k, when key and new cell are known
     unfoldable pub write-cell : Env → ℕ → ℕ → ℕ → Lab Key → Lab Cell → M (Unit {0})
@@ -225,62 +232,67 @@ module _ (b : Book) where
   -- what a command does, once its own cost is paid; ev and rec run its children
   module _ (labels : Bool) (ev : ℕ → M (Lab ℤ)) (rec : Env → ℕ → M (Unit {0})) where
     unfoldable pub command : Env → ℕ → Cmd → M (Unit {0})
+    -- 16 skip
     command e i skip = ret tt
-    -- an assigned variable's label becomes context plus expression
+    -- 17 variable p becomes a; an assigned variable's label becomes context plus expression
     command e i (assign p a) = do
       x ← ev a
       set-var labels i (e .ctx) p (λ old. under (e .ctx) x)
-    command e i (seq a c) = do
+    -- 18 a then b
+    command e i (seq a b) = do
       rec e a
-      rec e c
-    -- inside if, the context gains the condition's label
-    command e i (branch a c d) = do
+      rec e b
+    -- 19 if a nonzero then b else c; inside, the context gains the condition's label
+    command e i (branch a b c) = do
       x ← ev a
-      choose (x .val) (rec (within-label e x) c) (rec (within-label e x) d)
-    -- inside while, it has the labels of all tests so far; the while is entered anew for each test
-    command e i (while a c) = do
+      choose (x .val) (rec (within-label e x) b) (rec (within-label e x) c)
+    -- 20 while a nonzero do b; inside, the context has the labels of all its tests so far; a while is entered anew for each test
+    command e i (while a b) = do
       x ← ev a
-      choose (x .val) (do rec (within-label e x) c; rec (within-label e x) i) (ret tt)
-    command e i (put p a c d) = do
+      choose (x .val) (do rec (within-label e x) b; rec (within-label e x) i) (ret tt)
+    -- 21 put amount c at table p, owner a, line b
+    command e i (put p a b c) = do
       x ← ev a
-      y ← ev c
-      z ← ev d
+      y ← ev b
+      z ← ev c
       write-cell labels rec e i 1 p (key x y) (lift held z)
-    command e i (clear p a c) = do
+    -- 22 clear that cell
+    command e i (clear p a b) = do
       x ← ev a
-      y ← ev c
+      y ← ev b
       write-cell labels rec e i 2 p (key x y) (lit absent)
-    -- 27: value label plus context within the user's read set, in which the public set counts
+    -- 23 out a to user p; 27: value label plus context within the user's read set, in which the public set counts
     command e i (out p a) = do
       x ← ev a
       r ← look (λ s. s .rights)
-      need (inside labels (union (e .ctx) (x .lab)) (union (public-set b) (r .read p))) 27 i
+      need (inside labels (union (e .ctx) (x .lab)) (union (public-set book) (r .read p))) 27 i
       tell i (said p (x .val)) (λ r. r)
-    -- 28: user 0; 29: a context within the public set
+    -- 24 grant region a for user p; 28: user 0; 29: a context within the public set
     command e i (grant p a kind) = do
       need (plainly (eqb (e .user) 0)) 28 i
-      need (inside labels (e .ctx) (public-set b)) 29 i
+      need (inside labels (e .ctx) (public-set book)) 29 i
       tell i (changed (cond (eqb kind 1) 2 3) p a) (granted p a kind)
+    -- 25 revoke region a for user p, under the same tests
     command e i (revoke p a kind) = do
       need (plainly (eqb (e .user) 0)) 28 i
-      need (inside labels (e .ctx) (public-set b)) 29 i
+      need (inside labels (e .ctx) (public-set book)) 29 i
       tell i (changed (cond (eqb kind 1) 4 5) p a) (revoked p a kind)
-    -- raise adds the region's places
+    -- 26 raise variable p by region a: the context within its old label, and the region's places added
     command e i (raise p a) = set-var labels i (e .ctx) p (λ old. record { val = old .val; lab = union (old .lab) (region-places a) })
 
   -- ---- nodes and programs
 
   -- what entering node i costs
   abbrev pub cost-at : ℕ → ℕ
-  cost-at i = cost-of (node-at b i .kind)
+  cost-at i = cost-of (node-at book i .kind)
 
   unfoldable pub eval : ℕ → ℕ → M (Lab ℤ)
   eval zero i = λ s. stop [] (record { number = 21; node = i; obstacle = bottom }) s
-  eval (suc fuel) i = pay (cost-at i) i >> expr (eval fuel) i (exp-of (node-at b i))
+  eval (suc fuel) i = pay (cost-at i) i >> expr (eval fuel) i (exp-of (node-at book i))
 
   unfoldable pub exec : Bool → ℕ → Env → ℕ → M (Unit {0})
   exec labels zero e i = λ s. stop [] (record { number = 21; node = i; obstacle = bottom }) s
-  exec labels (suc fuel) e i = pay (cost-at i) i >> command labels (eval fuel) (exec labels fuel) e i (cmd-of (node-at b i))
+  exec labels (suc fuel) e i = pay (cost-at i) i >> command labels (eval fuel) (exec labels fuel) e i (cmd-of (node-at book i))
 
   -- a program: sixteen variables 0 of empty label, and the empty context
   unfoldable pub program : Bool → ℕ → ProgramRecord → M (Unit {0})
@@ -288,4 +300,4 @@ module _ (b : Book) where
 
   -- programs follow one another; a stop ends the whole run
   unfoldable pub run : Bool → ℕ → M (Unit {0})
-  run labels fuel = each (b .programs) (program labels fuel)
+  run labels fuel = each (book .programs) (program labels fuel)
