@@ -46,6 +46,10 @@ writing = grant-write 0 0 ∷ put 0 1 0 1 ∷ revoke-write 0 0 ∷ both 4 5 ∷ 
 abbrev pub in-secret : List NodeRecord
 in-secret = sum 0 2 2 0 3 ∷ grant-read 1 1 ∷ skip ∷ if 4 5 6 ∷ put 0 1 0 1 ∷ if 4 8 6 ∷ []
 
+-- 7: if owner 2's sum is nonzero, 1 is shown to user 1; 9: while it is nonzero, variable 0 becomes 1
+abbrev pub telling : List NodeRecord
+telling = sum 0 2 2 0 3 ∷ out 1 1 ∷ skip ∷ if 4 5 6 ∷ assign 0 1 ∷ while 4 8 ∷ []
+
 -- the sum of owner 3, of whom no cell is present, to user 1
 abbrev pub all-absent : List NodeRecord
 all-absent = constant (pos 3) ∷ sum 0 4 4 0 3 ∷ out 5 1 ∷ []
@@ -139,6 +143,10 @@ examples =
     ∷ run-list (w-with (public 1 ∷ []) in-secret (program 0 7 ∷ [])) (shows 0 0 10 8 (changed 2 1 1 ∷ []))
     -- a put in a context that the cell's label does not hold: if, query, put and three constants
     ∷ run-list (w-with (may-write 0 0 ∷ []) in-secret (program 0 9 ∷ [])) (shows 26 8 13 0 [])
+    -- an out in a context that the user may not read: if, query, out and constant
+    ∷ run-list (w-with w-rights telling (program 0 7 ∷ [])) (shows 27 5 11 0 [])
+    -- a while's body is in the context of its test: while, query, assignment and constant
+    ∷ run-list (w-with w-rights telling (program 0 9 ∷ [])) (shows 25 8 11 0 [])
     -- absent cells count in a query's label: out and query
     ∷ run-list (w-with w-rights all-absent (program 0 6 ∷ [])) (shows 27 6 9 0 [])
     -- a cleared cell's label is empty, though it was absent: 7, clear and two constants, out and query
