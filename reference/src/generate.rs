@@ -16,6 +16,7 @@ mod world;
 
 pub use alter::altered;
 pub use damage::damaged;
+pub(crate) use deep::nested;
 
 use crate::book::{Book, Program, Trigger};
 use crate::random::Random;

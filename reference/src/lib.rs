@@ -3,7 +3,9 @@
 
 pub mod book;
 pub mod builder;
+mod case_lines;
 mod decode;
+pub mod deepest;
 pub mod format_cases;
 pub mod generate;
 mod interpreter;
@@ -12,5 +14,6 @@ pub mod places;
 pub mod random;
 pub mod rights;
 pub mod run;
+pub mod run_cases;
 pub mod run_list;
 pub mod writer;

@@ -1,9 +1,11 @@
 //! The command line.
 
 use reference::book::{Book, Refusal};
+use reference::deepest::{self, Link};
 use reference::format_cases;
 use reference::notation;
 use reference::run::on_deep_stack;
+use reference::run_cases;
 use reference::run_list::run_list;
 use std::env;
 use std::ffi::OsString;
@@ -13,12 +15,14 @@ use std::path::Path;
 use std::process::ExitCode;
 
 const USAGE: &str = "usage: reference run|assemble|list [FILE]
-       reference format-cases FOLDER
+       reference format-cases|run-cases|deepest FOLDER
   run           run the book in FILE, or in standard input, and list what it does
   assemble      write the book that a text describes
   list          write the text that describes a book
   format-cases  write cases for readers and writers of books to FOLDER/stdin, and
-                the lines that these cases have to give to FOLDER/stdout";
+                the lines that these cases have to give to FOLDER/stdout
+  run-cases     the same for runners of books
+  deepest       write the books that nest deepest to FOLDER";
 
 /// Exit code for a text with a fault and for a book that is refused. Only `run`
 /// lists a refused book, or one that stops, with exit code 0.
@@ -74,6 +78,8 @@ fn dispatch(arguments: &[OsString]) -> Result<(), Failure> {
         Some("assemble") => assemble(file),
         Some("list") => list(file),
         Some("format-cases") => write_format_cases(file),
+        Some("run-cases") => write_run_cases(file),
+        Some("deepest") => write_deepest(file),
         _ => {
             let command = command.to_string_lossy();
             Err(format!("reference: unknown command {command}\n{USAGE}").into())
@@ -101,13 +107,42 @@ fn list(file: Option<&Path>) -> Result<(), Failure> {
 }
 
 fn write_format_cases(folder: Option<&Path>) -> Result<(), Failure> {
+    let cases = format_cases::all();
+    let stream = format_cases::stream(&cases);
+    write_cases(folder, &stream, || format_cases::answers(&cases))
+}
+
+fn write_run_cases(folder: Option<&Path>) -> Result<(), Failure> {
+    let cases = run_cases::all();
+    let stream = run_cases::stream(&cases);
+    write_cases(folder, &stream, || {
+        on_deep_stack(|| run_cases::answers(&cases))
+    })
+}
+
+fn write_cases(
+    folder: Option<&Path>,
+    stream: &[u8],
+    answers: impl FnOnce() -> String,
+) -> Result<(), Failure> {
     let Some(folder) = folder else {
         return Err(USAGE.to_string().into());
     };
-    let cases = format_cases::all();
-    output(&folder.join("stdin"), &format_cases::stream(&cases))?;
-    let answers = format_cases::answers(&cases);
-    output(&folder.join("stdout"), answers.as_bytes())
+    output(&folder.join("stdin"), stream)?;
+    output(&folder.join("stdout"), answers().as_bytes())
+}
+
+fn write_deepest(folder: Option<&Path>) -> Result<(), Failure> {
+    let Some(folder) = folder else {
+        return Err(USAGE.to_string().into());
+    };
+    for (name, link) in [
+        ("deepest_if.book", Link::If),
+        ("deepest_then.book", Link::Then),
+    ] {
+        output(&folder.join(name), &deepest::book(link).encode())?;
+    }
+    Ok(())
 }
 
 fn output(path: &Path, bytes: &[u8]) -> Result<(), Failure> {

@@ -1,6 +1,6 @@
 //! The command-line program.
 
-use reference::format_cases;
+use reference::{format_cases, run_cases};
 use std::io::Write;
 use std::path::{Path, PathBuf};
 use std::process::{Command, Output, Stdio};
@@ -72,9 +72,24 @@ fn format_cases_go_to_a_folder() {
 }
 
 #[test]
+fn run_cases_go_to_a_folder() {
+    let folder = temporary("run-cases");
+    fs::create_dir(&folder).unwrap();
+    let output = reference(&["run-cases".as_ref(), &folder], b"");
+    let stdin = fs::read(folder.join("stdin")).unwrap();
+    let stdout = fs::read_to_string(folder.join("stdout")).unwrap();
+    fs::remove_dir_all(&folder).unwrap();
+    let cases = run_cases::all();
+    assert_eq!(stdin, run_cases::stream(&cases));
+    assert_eq!(stdout.lines().count(), cases.len());
+    assert_eq!(output.stdout, b"");
+    assert_eq!(output.status.code(), Some(0));
+}
+
+#[test]
 fn a_missing_file_is_named() {
     let path = temporary("missing");
-    for command in ["run", "format-cases"] {
+    for command in ["run", "format-cases", "run-cases"] {
         let output = reference(&[command.as_ref(), &path], b"");
         let message = String::from_utf8(output.stderr).unwrap();
         assert!(message.contains(path.to_str().unwrap()), "{message}");
@@ -85,10 +100,11 @@ fn a_missing_file_is_named() {
 
 #[test]
 fn other_command_lines_show_the_usage() {
-    let lines: [&[&Path]; 4] = [
+    let lines: [&[&Path]; 5] = [
         &[],
         &["unknown".as_ref()],
         &["format-cases".as_ref()],
+        &["run-cases".as_ref()],
         &["run".as_ref(), "one".as_ref(), "two".as_ref()],
     ];
     for arguments in lines {

@@ -6,16 +6,16 @@ use Prim.Native.Nat.{ℕ, _+_, _*_, _≤_, _<_}
 use native.Mathlib.Nat.{zero-add, sub-le}
 use native.Mathlib.Omega.{arith}
 use lib.Dec.{leb}
-use lib.ListN.{length}
-use borrow.Author.Tests.{leb-true}
-use Rattle.book.specs.Records.{cells-format, regions-format, rights-format, nodes-format, programs-format, triggers-format}
+use lib.ListN.{length, getD}
+use borrow.Author.Tests.{leb-true, not-false}
+use Rattle.book.specs.Records.{RegionRecord, cells-format, regions-format, rights-format, nodes-format, programs-format, triggers-format}
 use Rattle.book.specs.Layout.{trailer, distance, count, section, bounds, decode}
-use Rattle.book.specs.Refusals.{need, blame, length-fits, mark-fits, sections-fit, Laid, bad-cell, bad-region, bad-right, bad-node, bad-program, bad-trigger, book-verdict, verdict}
+use Rattle.book.specs.Refusals.{need, blame, length-fits, mark-fits, sections-fit, Laid, bad-cell, no-region, region-fits, bad-region, bad-right, bad-node, bad-program, bad-trigger, book-verdict, verdict}
 use Rattle.book.specs.declared.Verdict.the-variants.{Accepted}
 use Rattle.book.proofs.Chains.{both}
 use Rattle.book.proofs.Verdicts.{accepts-both, need-accepts, blame-accepts}
 use Rattle.book.proofs.Sections.{first-in-order, last-in-order, in-order-back}
-use Rattle.book.proofs.Decoded.{count-cells, count-regions, count-rights, count-nodes, count-programs, count-triggers}
+use Rattle.book.proofs.Decoded.{count-cells, count-regions, count-rights, count-nodes, count-programs, count-triggers, region-read}
 
 -- where the sections lie: what passing refusals 2 and 4 tells
 pub record Sited (s : List ℕ) : Type 0 where
@@ -130,3 +130,22 @@ accepted s e =
       programs-ok = rw count-programs at (blame-accepts 9 _ _ (programs-in .0));
       triggers-ok = rw count-triggers at (blame-accepts 10 _ _ (programs-in .1));
     }
+
+-- what acceptance tells of region j
+module _ (s : List ℕ) (v : verdict s ≡ Accepted) where
+  pub placed : Sited s
+  placed = sited s (accepted s v .length-ok) (accepted s v .sections-ok)
+
+  module _ (j : ℕ) (h : j < count s 1) where
+    abbrev region : RegionRecord
+    region = regions-format .read s (section s 1 .start + j * 8)
+
+    pub region-inside : section s 1 .start + j * 8 + 8 ≤ length s
+    region-inside = omega (arith, regions-inside placed)
+
+    pub region-table : region .table < 8
+    unfolding bad-region region-fits
+    region-table =
+        let fits : region-fits region ≡ true = rw (region-read s j no-region h) at (not-false (region-fits (getD (decode s .regions) j no-region)) (accepted s v .regions-ok j h)) in
+        let table = both (leb (region .table) 7) _ fits in
+        omega (arith, leb-true (region .table) 7 (table .0))

@@ -6,35 +6,11 @@
 // the loader's number and index (0 0 if it accepted); digests of amounts, presence, labels and rights; the writer's number
 // and index (0 and the length if it wrote); the digest of the output.
 ghost use mathlib.Core.Path.{_≡_};
-ghost use Prim.Native.Nat.{_<_};
 ghost use lib.ListN.{length};
-
-// The digest of a sequence and one more number.
-fn mixed(digest: u32, number: u32) -> u32 {
-    ((digest as u64 * 16777619 + number as u64) % 4294967291) as u32
-}
-
-// The digest of a sequence and one more word: its low half, then its high half.
-fn mixed_word(digest: u32, word: u64) -> u32 {
-    let low = (word % 4294967296) as u32;
-    let high = (word / 4294967296) as u32;
-    mixed(mixed(digest, low), high)
-}
-
-// The digest of a sequence and more words.
-fn mixed_words(digest: u32, words: &[u64]) -> u32 {
-    let mut sum = digest;
-    let mut at: usize = 0;
-    while at < words.len() {
-        sum = mixed_word(sum, words[at]);
-        at += 1;
-    }
-    sum
-}
 
 // The digest of a sequence and a set.
 fn mixed_set(digest: u32, set: [u64; 8]) -> u32 {
-    mixed_words(digest, &set)
+    case_lines::mixed_words(digest, &set)
 }
 
 // The digest of a sequence and the sets of all users.
@@ -44,28 +20,6 @@ fn mixed_sets(digest: u32, sets: [[u64; 8]; 8]) -> u32 {
     while user < 8 {
         sum = mixed_set(sum, sets[user]);
         user += 1;
-    }
-    sum
-}
-
-// The digest of amounts, by their bits.
-fn digest_of_amounts(amounts: &[i32]) -> u32 {
-    let mut sum: u32 = 1;
-    let mut at: usize = 0;
-    while at < amounts.len() {
-        sum = mixed(sum, book::bits_of(amounts[at]));
-        at += 1;
-    }
-    sum
-}
-
-// The digest of bytes.
-fn digest_of_bytes(bytes: &[u8]) -> u32 {
-    let mut sum: u32 = 1;
-    let mut at: usize = 0;
-    while at < bytes.len() {
-        sum = mixed(sum, bytes[at] as u32);
-        at += 1;
     }
     sum
 }
@@ -83,12 +37,6 @@ fn digest_of_rights(file: &[u8]) -> u32 {
     }
 }
 
-// Prints a number and a space.
-fn print(number: usize) {
-    io::print_decimal(1, number as u64);
-    io::write_all(1, b" ");
-}
-
 // Loads the file; prints the answer and the digests of the lent memory and the rights.
 fn load(file: &[u8], amounts: &mut [i32], presence: &mut [u64], labels: &mut [u64]) {
     let mut rights: u32 = 0;
@@ -98,14 +46,12 @@ fn load(file: &[u8], amounts: &mut [i32], presence: &mut [u64], labels: &mut [u6
             rights = digest_of_rights(file);
         }
         book::Verdict::Refused(number, index) => {
-            print(number as usize);
-            print(index);
+            case_lines::print(number as usize);
+            case_lines::print(index);
         }
     }
-    print(digest_of_amounts(amounts) as usize);
-    print(mixed_words(1, presence) as usize);
-    print(mixed_words(1, labels) as usize);
-    print(rights as usize);
+    case_lines::print_cells(amounts, presence, labels);
+    case_lines::print(rights as usize);
 }
 
 // Writes the file with these cells; prints the answer and the digest of the output.
@@ -113,56 +59,14 @@ fn write(file: &[u8], amounts: &[i32], presence: &[u64], out: &mut [u8]) {
     match writer::write(file, amounts, presence, out) {
         writer::Written::Wrote(length) => {
             io::write_all(1, b"0 ");
-            print(length);
+            case_lines::print(length);
         }
         writer::Written::Refused(number, index) => {
-            print(number as usize);
-            print(index);
+            case_lines::print(number as usize);
+            case_lines::print(index);
         }
     }
-    io::print_decimal(1, digest_of_bytes(out) as u64);
-    io::write_all(1, b"\n");
-}
-
-// The number drawn after another.
-fn drawn(number: u32) -> u32
-    ensures { λ r. ⌜ r < 2147483648 ⌝ }
-{
-    ((number as u64 * 1103515245 + 12345) % 2147483648) as u32
-}
-
-// The amount of a place for the number drawn: at every second place it is negative.
-fn amount_of(number: u32, place: usize) -> i32
-    requires { ⌜ number < 2147483648 ⌝ }
-{
-    if place % 2 == 0 {
-        return number as i32;
-    }
-    0 - (number as i32)
-}
-
-// Draws amounts; answers the last number drawn.
-fn draw_amounts(amounts: &mut [i32], seed: u32) -> u32 {
-    let mut last = seed;
-    let mut at: usize = 0;
-    while at < amounts.len() {
-        last = drawn(last);
-        amounts[at] = amount_of(last, at);
-        at += 1;
-    }
-    last
-}
-
-// Draws words of two numbers each.
-fn draw_presence(presence: &mut [u64], seed: u32) {
-    let mut last = seed;
-    let mut at: usize = 0;
-    while at < presence.len() {
-        let high = drawn(last);
-        last = drawn(high);
-        presence[at] = high as u64 * 8589934592 + last as u64 * 2;
-        at += 1;
-    }
+    case_lines::print_last(out);
 }
 
 // Draws the cells to write; at seed 0 they stay as they are.
@@ -170,8 +74,8 @@ fn draw(amounts: &mut [i32], presence: &mut [u64], seed: u32) {
     if seed == 0 {
         return;
     }
-    let last = draw_amounts(amounts, seed);
-    draw_presence(presence, last);
+    let last = case_lines::draw_amounts(amounts, seed);
+    case_lines::draw_words(presence, last);
 }
 
 // Makes every amount this one.
@@ -267,16 +171,14 @@ fn step(
     out: &mut [u8],
 ) -> bool {
     let mut header = [0u8; 16];
-    let got = io::read_full(0, &mut header);
-    if got < 16 {
+    if !case_lines::read(&mut header) {
         return false;
     }
     let size = book::u32_at(&header, 0) as usize;
     if file.len() < size {
         return false;
     }
-    let read = io::read_full(0, &mut file[0..size]);
-    if read < size {
+    if !case_lines::read(&mut file[0..size]) {
         return false;
     }
     case_in(&header, &file[0..size], amounts, presence, labels, out)

@@ -1,4 +1,4 @@
--- What acceptance tells of the cells, regions and rights that the code reads. Assumes nothing.
+-- What acceptance tells of the cells and rights that the code reads. Assumes nothing.
 use mathlib.Core.Path.{_≡_}
 use mathlib.Core.List.{List}
 use mathlib.Core.Bool.{true}
@@ -7,14 +7,13 @@ use native.Mathlib.Omega.{arith}
 use lib.Dec.{leb, ltb}
 use lib.ListN.{length, getD}
 use borrow.Author.Tests.{leb-true, ltb-true, eqb-true, not-false}
-use Rattle.places.specs.declared.Region.{Region}
-use Rattle.book.specs.Records.{CellRecord, RightRecord, place-of, region-of, cells-format, regions-format, rights-format}
+use Rattle.book.specs.Records.{CellRecord, RightRecord, place-of, cells-format, rights-format}
 use Rattle.book.specs.Layout.{count, section, decode}
-use Rattle.book.specs.Refusals.{cell-fits, no-cell, bad-cell, no-region, region-fits, bad-region, no-right, right-fits, bad-right, verdict}
+use Rattle.book.specs.Refusals.{cell-fits, no-cell, bad-cell, no-right, right-fits, bad-right, verdict}
 use Rattle.book.specs.declared.Verdict.the-variants.{Accepted}
 use Rattle.book.proofs.Chains.{both}
-use Rattle.book.proofs.Decoded.{count-regions, cell-read, region-read, right-read}
-use Rattle.book.proofs.Accepted.{Sited, sited, accepted}
+use Rattle.book.proofs.Decoded.{count-regions, cell-read, right-read}
+use Rattle.book.proofs.Accepted.{accepted}
 
 -- what the check of one cell record tells
 pub record Key (c : CellRecord) : Type 0 where
@@ -38,17 +37,11 @@ cell-key {c} e =
 pub place-lt : {c : CellRecord} → Key c → place-of c < 512
 place-lt k = omega arith
 
--- record i of the rights, and region j
+-- record i of the rights
 abbrev pub right-at : List ℕ → ℕ → RightRecord
 right-at s i = rights-format .read s (section s 2 .start + i * 4)
 
-abbrev pub region-at : List ℕ → ℕ → Region
-region-at s j = region-of (regions-format .read s (section s 1 .start + j * 8))
-
 module _ (s : List ℕ) (v : verdict s ≡ Accepted) where
-  pub placed : Sited s
-  placed = sited s (accepted s v .length-ok) (accepted s v .sections-ok)
-
   -- the place of a record is one of the 512
   pub place-inside : (i : ℕ) → i < count s 0 → place-of (cells-format .read s (section s 0 .start + i * 8)) < 512
   unfolding bad-cell
@@ -66,16 +59,3 @@ module _ (s : List ℕ) (v : verdict s ≡ Accepted) where
       let user = both (leb (r .user) _) _ (kind .1) in
       let region = both (ltb (r .region) (length (decode s .regions))) _ (user .1) in
       omega (arith, ltb-true (r .region) (length (decode s .regions)) (region .0), count-regions s)
-
-  pub region-inside : (i : ℕ) → i < count s 2 → section s 1 .start + right-at s i .region * 8 + 8 ≤ length s
-  region-inside i h =
-      omega (arith, placed .rights-start, region-exists i h)
-
-  pub table-inside : (i : ℕ) → i < count s 2 → region-at s (right-at s i .region) .table < 8
-  unfolding bad-region region-fits
-  table-inside i h =
-      let j : ℕ = right-at s i .region in
-      let lt : j < count s 1 = region-exists i h in
-      let fits : region-fits (regions-format .read s (section s 1 .start + j * 8)) ≡ true = rw (region-read s j no-region lt) at (not-false (region-fits (getD (decode s .regions) j no-region)) (accepted s v .regions-ok j lt)) in
-      let table = both (leb (regions-format .read s (section s 1 .start + j * 8) .table) 7) _ fits in
-      omega (arith, leb-true (regions-format .read s (section s 1 .start + j * 8) .table) 7 (table .0))

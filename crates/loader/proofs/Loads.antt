@@ -22,7 +22,7 @@ use Rattle.book.specs.declared.Section.{Section}
 use Rattle.book.specs.declared.Verdict.the-variants.{Accepted}
 use Rattle.book.proofs.Decoded.{count-cells, cell-read}
 use Rattle.book.specs.Start.{tabulate, amount-at, or-zero, is-there, start-amounts, start-presence}
-use Rattle.loader.proofs.Accepted.{placed}
+use Rattle.book.proofs.Accepted.{placed}
 use Rattle.book.proofs.Tabulate.{length-tabulate, tabulate-cong, set-tabulate}
 
 -- the amounts and the presence words of some records

@@ -9,11 +9,12 @@ use borrow.Author.Tests.{eqb-true}
 use Rattle.places.specs.Sets.{union, difference, Within}
 use Rattle.places.proofs.Sets.{within-trans, within-union-right, union-least, difference-within}
 use Rattle.book.specs.Records.{Book}
+use Rattle.book.specs.Refusals.{is-zero}
 use Rattle.book.specs.Start.{public-set}
 use Rattle.monitor.specs.Labelled.{Label, bottom, Lab, lift2, under}
 use Rattle.monitor.specs.Run.{Cell, held, Rights, State, changed, M, _>>=_, _>>_, ret, update}
 use Rattle.monitor.specs.Syntax.{Exp, const, var, add, minus, less, query, Cmd, skip, assign, seq, branch, while, put, clear, out, grant, revoke, raise}
-use Rattle.monitor.specs.Rules.{Key, key, Box, bounds, in-box, gather, seen, aggregate, ranged, expr, Env, within-label, is-zero, choose, trigger-vars, region-places, granted, revoked, trigger-run, fire, write-cell, command, eval, exec, program, run}
+use Rattle.monitor.specs.Rules.{Key, key, Box, bounds, in-box, gather, seen, aggregate, ranged, expr, Env, within-label, choose, trigger-vars, region-places, granted, revoked, trigger-run, fire, write-cell, command, eval, exec, program, run}
 use Rattle.monitor.specs.TwoBooks.{Group}
 use Rattle.monitor.proofs.Views.{seen-of, gift}
 use Rattle.monitor.proofs.Low.{View, Hidden, hidden-left, hidden-right, Same, equal, same-inside, same-lift, same-lift2, same-via, same-under, same-raised, same-update, Safe, Alike}

@@ -16,11 +16,11 @@ use Rattle.places.proofs.Sets.{length-word-by-word, length-single}
 use Rattle.places.proofs.Shapes.{length-region}
 use Rattle.book.specs.Records.{Book, region-of}
 use Rattle.book.specs.Kinds.{between}
-use Rattle.book.specs.Refusals.{no-region}
+use Rattle.book.specs.Refusals.{no-region, is-zero}
 use Rattle.monitor.specs.Labelled.{Label, Lab, lit, lift, lift2, via, under}
 use Rattle.monitor.specs.Run.{Cell, Rights, State, Rec, said, changed, Halt, Out, done, stop, M, after, next, _>>=_, ret, look, each, when, Test, guard, need, commit, update, with-vars, pay, set-var, set-cell, tell, sixteen, restore, own}
 use Rattle.monitor.specs.Syntax.{Exp, const, var, add, minus, equal, less, query, Cmd, skip, assign, seq, branch, while, put, clear, out, grant, revoke, raise}
-use Rattle.monitor.specs.Rules.{Key, key, Box, bounds, in-box, gather, seen, ranged, expr, Env, within-label, is-zero, choose, trigger-vars, region-places, trigger-run, fire, write-cell, command, eval, exec, program, run}
+use Rattle.monitor.specs.Rules.{Key, key, Box, bounds, in-box, gather, seen, ranged, expr, Env, within-label, choose, trigger-vars, region-places, trigger-run, fire, write-cell, command, eval, exec, program, run}
 use Rattle.monitor.specs.Call.{script, start-cells, start-state, run-book}
 use Rattle.monitor.proofs.Views.{records, end}
 use Rattle.monitor.proofs.Steps.{Any}

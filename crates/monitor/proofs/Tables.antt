@@ -12,7 +12,7 @@ use Rattle.book.specs.Records.{records, section-bytes, cells-format, regions-fo
 use Rattle.book.specs.Layout.{in-order, bounds, decode}
 use Rattle.book.specs.Kinds.{cost-of, sort-of, fields-of}
 use Rattle.book.specs.Refusals as refusals
-use Rattle.book.specs.Refusals.{and-then, first, blame, length-fits, mark-fits, sections-fit, cell-fits, rises, bad-cell, region-fits, bad-region, right-fits, bad-right, field-fits, node-fits, is-command, program-fits, bad-program, forbidden, reaches, trigger-fits, bad-trigger, book-verdict, verdict}
+use Rattle.book.specs.Refusals.{and-then, first, blame, length-fits, mark-fits, sections-fit, cell-fits, rises, bad-cell, region-fits, bad-region, right-fits, bad-right, field-fits, is-zero, node-fits, is-command, program-fits, bad-program, forbidden, reaches, trigger-fits, bad-trigger, book-verdict, verdict}
 use Rattle.book.specs.Encode.{extents, distance-to-end, pairs, other-sections, trailer-bytes, encode}
 use Rattle.book.specs.Start.{tabulate, amount-at, rights-hold, right-set}
 use Rattle.book.specs.declared.Verdict.{Verdict}
@@ -21,7 +21,7 @@ use Rattle.monitor.specs.Labelled.{Lab, lit, lift, lift2, via, under}
 use Rattle.monitor.specs.Run.{Cell, State, after, next, each, when, guard, need, update, pay, set-var, set-cell, tell, sixteen, restore, own}
 use Rattle.monitor.specs.Syntax.{exp-of, cmd-of}
 use Rattle.monitor.specs.Rules as rules
-use Rattle.monitor.specs.Rules.{fits-32, equals, less-than, key, in-box, gather, seen, amounts-of, count-of, sum-of, best, best-of, aggregate, ranged, expr, within-label, is-zero, choose, key-place, in-table, trigger-vars, numbers, region-places, granted, revoked, fitting, trigger-run, fire, write-cell, command, eval, exec, program, run}
+use Rattle.monitor.specs.Rules.{fits-32, equals, less-than, key, in-box, gather, seen, amounts-of, count-of, sum-of, best, best-of, aggregate, ranged, expr, within-label, choose, key-place, in-table, trigger-vars, numbers, region-places, granted, revoked, fitting, trigger-run, fire, write-cell, command, eval, exec, program, run}
 use Rattle.monitor.specs.Call.{Memory, Result, values, record-bytes, trace-bytes, script, rows, start-cells, start-rights, start-state, run-book, call-verdict, memory-after, result-of, answered, call}
 use Rattle.monitor.specs.TwoBooks.{cut, trace-records}
 use Rattle.monitor.specs.Tables.{Shown, Row, lent, shown, Shows}
@@ -54,7 +54,7 @@ place-by-place z n row =
     same m Accepted = refl
 
 unfoldable pub computed : ℤ → ℕ → List Row → List Shown
-unfolding has word-of set-of word-by-word union difference within in-region region-set records section-bytes cells-format regions-format rights-format nodes-format programs-format triggers-format in-order bounds decode cost-of sort-of fields-of and-then refusals.need refusals.marked refusals.is-zero first blame length-fits mark-fits sections-fit cell-fits rises bad-cell region-fits bad-region right-fits bad-right field-fits node-fits is-command program-fits bad-program forbidden reaches trigger-fits bad-trigger book-verdict verdict extents distance-to-end pairs other-sections trailer-bytes encode tabulate amount-at rights-hold right-set lit lift lift2 via under after next each when guard need update pay set-var set-cell tell sixteen restore own exp-of cmd-of fits-32 equals less-than key rules.bounds in-box gather seen amounts-of count-of sum-of best best-of aggregate ranged expr within-label is-zero choose key-place in-table trigger-vars numbers region-places granted revoked fitting trigger-run fire write-cell command eval exec program run values record-bytes trace-bytes script rows start-rights call-verdict memory-after result-of cut trace-records lent start-cell answered-from shown-from
+unfolding has word-of set-of word-by-word union difference within in-region region-set records section-bytes cells-format regions-format rights-format nodes-format programs-format triggers-format in-order bounds decode cost-of sort-of fields-of and-then refusals.need refusals.marked first blame length-fits mark-fits sections-fit cell-fits rises bad-cell region-fits bad-region right-fits bad-right field-fits node-fits is-command program-fits bad-program forbidden reaches trigger-fits bad-trigger book-verdict verdict extents distance-to-end pairs other-sections trailer-bytes encode tabulate amount-at rights-hold right-set lit lift lift2 via under after next each when guard need update pay set-var set-cell tell sixteen restore own exp-of cmd-of fits-32 equals less-than key rules.bounds in-box gather seen amounts-of count-of sum-of best best-of aggregate ranged expr within-label is-zero choose key-place in-table trigger-vars numbers region-places granted revoked fitting trigger-run fire write-cell command eval exec program run values record-bytes trace-bytes script rows start-rights call-verdict memory-after result-of cut trace-records lent start-cell answered-from shown-from
 computed z n rows = map (shown-from start-cell z n) rows
 
 -- a table that holds by computation holds of the calls

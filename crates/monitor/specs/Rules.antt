@@ -13,7 +13,7 @@ use Rattle.places.specs.Sets.{has, union, difference}
 use Rattle.places.specs.Regions.{region-set}
 use Rattle.book.specs.Records.{Book, TriggerRecord, ProgramRecord, region-of}
 use Rattle.book.specs.Kinds.{cost-of}
-use Rattle.book.specs.Refusals.{no-region, no-trigger, node-at}
+use Rattle.book.specs.Refusals.{no-region, no-trigger, node-at, is-zero}
 use Rattle.book.specs.Start.{public-set}
 use Rattle.monitor.specs.Labelled.{Label, bottom, Lab, lit, lift, lift2, via, under}
 use Rattle.monitor.specs.Run.{Cell, held, absent, Rights, State, said, changed, M, stop, _>>=_, _>>_, ret, look, each, when, plainly, inside, need, update, pay, set-var, set-cell, tell, sixteen, own}
@@ -150,11 +150,7 @@ pub record Env : Type 0 where
 unfoldable pub within-label : {A : Type 0} → Env → Lab A → Env
 within-label e x = record { ctx = union (e .ctx) (x .lab); user = e .user; above = e .above }
 
-unfoldable pub is-zero : ℤ → Bool
-is-zero (pos n) = eqb n 0
-is-zero (negsuc n) = false
-
--- m if v is nonzero, else n
+-- m if v is nonzero, else n; `is-zero` stands in book/specs/Refusals.antt
 unfoldable pub choose : ℤ → M (Unit {0}) → M (Unit {0}) → M (Unit {0})
 choose v m n = λ s. elim (is-zero v) [ true ↦ n s | false ↦ m s ]
 

@@ -1,7 +1,7 @@
 // Sets of places in eight words, and the labels of the 512 cells in lent memory.
 // Place p is bit p % 64 of word p / 64; the label of cell p is the eight words from 8 * p on.
 ghost use mathlib.Core.Path.{_≡_};
-ghost use Prim.Native.Nat.{_^_, _<_, _≤_};
+ghost use Prim.Native.Nat.{_+_, _*_, _^_, _<_, _≤_};
 ghost use lib.ListN.{length};
 ghost use Rattle.places.specs.Sets.{has, single, union, difference, within};
 ghost use Rattle.places.specs.Regions.{region-set, repeated};
@@ -112,9 +112,9 @@ pub fn region_set(region: Region) -> [u64; 8]
     set
 }
 
-// The label of cell `place`.
+// The label of cell `place`, or of a variable where the words are those of variables.
 pub fn label_at(labels: &[u64], place: usize) -> [u64; 8]
-    requires { ⌜ (place < 512) × (length (now labels) ≡ 4096) ⌝ }
+    requires { ⌜ 8 * place + 8 ≤ length (now labels) ⌝ }
     ensures { λ r. ⌜ r ≡ label-at (now (labels .entry)) place ⌝ }
 {
     let mut label = [0u64; 8];
@@ -126,9 +126,9 @@ pub fn label_at(labels: &[u64], place: usize) -> [u64; 8]
     label
 }
 
-// Makes `label` the label of cell `place`; the other labels stay.
+// Makes `label` the label of cell or variable `place`; the other labels stay.
 pub fn set_label(labels: &mut [u64], place: usize, label: [u64; 8])
-    requires { ⌜ (place < 512) × (length (now labels) ≡ 4096) ⌝ }
+    requires { ⌜ 8 * place + 8 ≤ length (now labels) ⌝ }
     ensures { λ _. ⌜ now (labels .exit) ≡ set-label (now (labels .entry)) place label ⌝ }
 {
     let mut offset: usize = 0;

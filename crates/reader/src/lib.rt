@@ -24,11 +24,11 @@ fn inspect_records(file: &[u8]) -> book::Verdict
     if node < book::section_at(file, 3).count {
         return book::Verdict::Refused(8, node);
     }
-    let program = nodes::first_bad_program(file);
+    let program = scripts::first_bad_program(file);
     if program < book::section_at(file, 4).count {
         return book::Verdict::Refused(9, program);
     }
-    let trigger = nodes::first_bad_trigger(file);
+    let trigger = scripts::first_bad_trigger(file);
     if trigger < book::section_at(file, 5).count {
         return book::Verdict::Refused(10, trigger);
     }
@@ -39,13 +39,13 @@ fn inspect_records(file: &[u8]) -> book::Verdict
 pub fn inspect(file: &[u8]) -> book::Verdict
     ensures { λ r. ⌜ r ≡ verdict (now (file .entry)) ⌝ }
 {
-    if !records::length_fits(file) {
+    if !trailer::length_fits(file) {
         return book::Verdict::Refused(2, 0);
     }
-    if !records::mark_fits(file) {
+    if !trailer::mark_fits(file) {
         return book::Verdict::Refused(3, 0);
     }
-    if !records::sections_fit(file) {
+    if !trailer::sections_fit(file) {
         return book::Verdict::Refused(4, 0);
     }
     inspect_records(file)

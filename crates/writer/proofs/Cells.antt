@@ -1,12 +1,11 @@
 -- Cell records: those of an accepted file, and those made from lent memory. Assumes nothing.
 use mathlib.Core.Path.{_≡_, refl, sym, ap, ap₂, _∙_}
-use mathlib.Core.List.{List, [], _∷_, _++_}
+use mathlib.Core.List.{List, [], _∷_}
 use mathlib.Core.Bool.{Bool, true, false, cond, not}
 use mathlib.Core.Option.{none, some}
 use Prim.Native.Nat.{ℕ, zero, suc, _+_, _≤_, _<_}
 use native.Mathlib.Decide.{ℕ-discrete}
-use native.Mathlib.Nat.{not-suc-le-zero, le-of-suc-le-suc, add-zero}
-use native.Mathlib.Numerals.{add-one}
+use native.Mathlib.Nat.{not-suc-le-zero, le-of-suc-le-suc}
 use native.Mathlib.Omega.{arith}
 use lib.IntN.{ℤ, pos}
 use lib.ListN.{length, getD}
@@ -24,9 +23,10 @@ use Rattle.book.specs.Start.{amount-at, or-zero, is-there}
 use Rattle.book.specs.Encode.{cell-record, keep, cells-from}
 use Rattle.book.proofs.Chains.{both, pass}
 use Rattle.loader.proofs.Accepted.{Key, cell-key, place-lt}
+use Rattle.encoder.proofs.Codec.{Kept, AllKept, more, four-back}
+use Rattle.encoder.proofs.Codec.{none as none-kept}
+use Rattle.encoder.proofs.Writes.{here}
 use Rattle.writer.specs.Claims.{Amounts}
-use Rattle.writer.proofs.Codec.{Kept, AllKept, more, four-back}
-use Rattle.writer.proofs.Codec.{none as none-kept}
 
 -- a cell record is made of its place and its amount
 record-is : {c : CellRecord} → Key c → cell-record (place-of c) (c .amount) ≡ c
@@ -95,25 +95,13 @@ none-below (next {c = c} l f r) q h = rw (ne-eqb (place-of c) q (λ e. omega ari
 -- ---- the records of lent memory
 
 module _ (amounts : List ℤ) (presence : List ℕ) where
-  abbrev here : ℕ → CellRecord
-  here p = cell-record p (getD amounts p (pos 0))
-
-  pub cells-few : (n p : ℕ) → length (cells-from amounts presence n p) ≤ n
-  unfolding cells-from
-  cells-few zero p = omega arith
-  cells-few (suc n) p = go (has presence p) (cells-few n (suc p))
-    where
-      go : (t : Bool) → length (cells-from amounts presence n (suc p)) ≤ n → length (keep t (here p) (cells-from amounts presence n (suc p))) ≤ suc n
-      go true h = omega arith
-      go false h = omega arith
-
   -- they are read back as they are written
   pub cells-kept : Amounts amounts → (n p : ℕ) → AllKept cells-format (cells-from amounts presence n p)
   unfolding cells-from
   cells-kept fit zero p = none-kept
   cells-kept fit (suc n) p = go (has presence p) (cells-kept fit n (suc p))
     where
-      go : (t : Bool) → AllKept cells-format (cells-from amounts presence n (suc p)) → AllKept cells-format (keep t (here p) (cells-from amounts presence n (suc p)))
+      go : (t : Bool) → AllKept cells-format (cells-from amounts presence n (suc p)) → AllKept cells-format (keep t (here amounts p) (cells-from amounts presence n (suc p)))
       go true r = more (cell-kept p (getD amounts p (pos 0)) (fit .fits p)) r
       go false r = r
 
@@ -122,8 +110,8 @@ module _ (amounts : List ℤ) (presence : List ℕ) where
   cells-rising zero p h = ended
   cells-rising (suc n) p h = go (has presence p) (cells-rising n (suc p) (omega arith))
     where
-      go : (t : Bool) → Rising (suc p) (cells-from amounts presence n (suc p)) → Rising p (keep t (here p) (cells-from amounts presence n (suc p)))
-      go true r = next {p = p} {c = here p} (omega (arith, place-of-key p)) (record-fits p _ (omega arith)) (weaken (omega (arith, place-of-key p)) r)
+      go : (t : Bool) → Rising (suc p) (cells-from amounts presence n (suc p)) → Rising p (keep t (here amounts p) (cells-from amounts presence n (suc p)))
+      go true r = next {p = p} {c = here amounts p} (omega (arith, place-of-key p)) (record-fits p _ (omega arith)) (weaken (omega (arith, place-of-key p)) r)
       go false r = weaken (omega arith) r
 
   -- the amount that they give to a place
@@ -134,7 +122,7 @@ module _ (amounts : List ℤ) (presence : List ℕ) where
   cells-amount (suc n) p h q l m = go (has presence p) refl (ℕ-discrete p q) (λ k. cells-amount n (suc p) (omega arith) q k (omega arith))
     where
       go : (t : Bool) → has presence p ≡ t → Dec (p ≡ q) → (suc p ≤ q → amount-at (cells-from amounts presence n (suc p)) q ≡ cond (has presence q) (some (getD amounts q (pos 0))) none)
-          → amount-at (keep t (here p) (cells-from amounts presence n (suc p))) q ≡ cond (has presence q) (some (getD amounts q (pos 0))) none
+          → amount-at (keep t (here amounts p) (cells-from amounts presence n (suc p))) q ≡ cond (has presence q) (some (getD amounts q (pos 0))) none
       go true e (yes k) later = rw (place-of-key p, eq-eqb p q k, ← k, e)
       go true e (no k) later = rw (place-of-key p, ne-eqb p q k) (later (omega arith))
       go false e (yes k) later = rw (← k, e) (none-below (cells-rising n (suc p) (omega arith)) p (omega arith))
@@ -180,18 +168,3 @@ module _ (amounts : List ℤ) (presence : List ℕ) where
           let on : Rising (suc p) (c ∷ cs) = next {p = suc p} {c = c} (omega arith) f r in
           let t : has presence p ≡ false = v .there p (omega arith) (omega arith) ∙ ap is-there (none-below on p (omega arith)) in
           rw t (later (c ∷ cs) (omega arith) on (holds-later v))
-
-  -- one place more
-  pub cells-turn : (n p : ℕ) → cells-from amounts presence (n + 1) p ≡ cells-from amounts presence n p ++ keep (has presence (p + n)) (here (p + n)) []
-  unfolding cells-from
-  cells-turn n p = rw (add-one n) (go n p)
-    where
-      kept : (t : Bool) (c : CellRecord) (x y : List CellRecord) → keep t c (x ++ y) ≡ keep t c x ++ y
-      kept true c x y = refl
-      kept false c x y = refl
-
-      go : (n p : ℕ) → cells-from amounts presence (suc n) p ≡ cells-from amounts presence n p ++ keep (has presence (p + n)) (here (p + n)) []
-      go zero p = rw (add-zero p)
-      go (suc n) p =
-          let e : p + suc n ≡ suc p + n = omega arith in
-          rw e (ap (keep (has presence p) (here p)) (go n (suc p)) ∙ kept (has presence p) (here p) (cells-from amounts presence n (suc p)) _)

@@ -13,10 +13,9 @@ use Rattle.book.specs.Layout.{trailer, distance, count, section-records, decode
 use Rattle.book.specs.Refusals.{length-fits, mark-fits, sections-fit, verdict}
 use Rattle.book.specs.declared.Verdict.the-variants.{Accepted}
 use Rattle.book.proofs.Decoded.{count-cells, count-regions, count-rights, count-nodes, count-programs, count-triggers}
-use Rattle.book.proofs.Accepted.{Good, accepted}
-use Rattle.loader.proofs.Accepted.{placed}
+use Rattle.book.proofs.Accepted.{Good, accepted, placed}
 use Rattle.book.specs.Encode.{extents, distance-to-end, pairs, other-sections, trailer-bytes, encode}
-use Rattle.writer.proofs.Codec.{Codec, AllKept, length-section, section-same, section-back, cells-codec, regions-codec, rights-codec, nodes-codec, programs-codec, triggers-codec}
+use Rattle.encoder.proofs.Codec.{Codec, AllKept, length-section, section-same, section-back, cells-codec, regions-codec, rights-codec, nodes-codec, programs-codec, triggers-codec}
 use Rattle.writer.proofs.Trailer.{Counts, Few, counts-of, trailer-of, from-cells, Trailed, trailed, found, found-trailed, head-bytes, later-pairs, length-bytes, length-passes, mark-passes, sections-pass}
 
 -- each record is read back as it was written, and there are not too many

@@ -1,9 +1,6 @@
-pub mod Codec
 pub mod Trailer
 pub mod Cells
 pub mod Files
-pub mod Stores
-pub mod Writes
 pub mod Books
 pub mod Rewritten
 pub mod Calls

@@ -17,12 +17,12 @@ use Rattle.book.specs.declared.Verdict.{Verdict}
 use Rattle.book.specs.declared.Verdict.the-variants.{Accepted}
 use Rattle.book.proofs.First.{first-none}
 use Rattle.book.proofs.Verdicts.{accepts-both}
-use Rattle.book.proofs.Accepted.{accepted}
+use Rattle.book.proofs.Accepted.{accepted, placed}
 use Rattle.writer.specs.Claims.{Amounts}
-use Rattle.writer.proofs.Codec.{all-kept, regions-codec, rights-codec, nodes-codec, programs-codec, triggers-codec}
+use Rattle.encoder.proofs.Codec.{all-kept, regions-codec, rights-codec, nodes-codec, programs-codec, triggers-codec}
+use Rattle.encoder.proofs.Writes.{cells-few}
 use Rattle.writer.proofs.Trailer.{Few, counts-of, found-few, found-trailed}
-use Rattle.writer.proofs.Cells.{cells-few, cells-kept, cells-rising, rising-good}
-use Rattle.loader.proofs.Accepted.{placed}
+use Rattle.writer.proofs.Cells.{cells-kept, cells-rising, rising-good}
 use Rattle.writer.proofs.Books.{new-counts}
 use Rattle.writer.proofs.Files.{Sound, passes-length, passes-mark, passes-sections, decode-encode}
 

@@ -14,7 +14,7 @@ use Rattle.book.specs.Layout.{trailer, distance, count, bounds, in-order}
 use Rattle.book.specs.Refusals.{mark, length-fits, marked, mark-fits, sections-fit}
 use Rattle.book.proofs.Chains.{both}
 use Rattle.book.proofs.Sections.{first-in-order, last-in-order}
-use Rattle.writer.proofs.Codec.{two-back, four-back, two-of, four-of, spread-is}
+use Rattle.encoder.proofs.Codec.{two-back, four-back, two-of, four-of, spread-is}
 use Rattle.book.specs.Encode.{Extent, distance-to-end, pairs}
 
 -- how many records the sections have

@@ -1,3 +1,2 @@
 pub mod Write
-pub mod Steps
 pub mod Claims

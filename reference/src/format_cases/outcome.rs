@@ -2,6 +2,7 @@
 
 use super::Case;
 use crate::book::{Book, Refusal};
+use crate::case_lines::{digest_of_amounts, digest_of_bytes, digest_of_words, Draws};
 use crate::places::Places;
 use crate::rights::Rights;
 use crate::run::{load, Memory};
@@ -45,12 +46,12 @@ impl Outcome {
         let written = write(&case.file, &amounts, &presence, &mut output);
         Outcome {
             refusal: loaded.as_ref().err().copied(),
-            amounts: digest(memory.amounts.iter().map(|&amount| amount as u32)),
-            presence: digest(halves(&memory.presence)),
-            labels: digest(halves(&memory.labels)),
+            amounts: digest_of_amounts(&memory.amounts),
+            presence: digest_of_words(&memory.presence),
+            labels: digest_of_words(&memory.labels),
             rights: loaded.as_ref().map_or(0, rights),
             written,
-            output: digest(output.into_iter().map(u32::from)),
+            output: digest_of_bytes(&output),
         }
     }
 }
@@ -82,80 +83,15 @@ fn cells(case: &Case, memory: &Memory) -> (Vec<i32>, Vec<u64>) {
     if case.seed == 0 {
         return (memory.amounts.clone(), memory.presence.clone());
     }
-    let mut draws = Draws(case.seed.into());
-    let amounts = (0..case.lent.amounts)
-        .map(|index| {
-            let amount = draws.next() as i32;
-            if index % 2 == 0 {
-                amount
-            } else {
-                -amount
-            }
-        })
-        .collect();
-    let presence = (0..case.lent.presence)
-        .map(|_| {
-            let high = draws.next();
-            (high << 33) + draws.next() * 2
-        })
-        .collect();
+    let mut draws = Draws::new(case.seed);
+    let amounts = draws.amounts(case.lent.amounts.into());
+    let presence = draws.words(case.lent.presence.into());
     (amounts, presence)
-}
-
-/// Numbers of 31 bits, by a method short enough to be written down anywhere.
-struct Draws(u64);
-
-impl Draws {
-    fn next(&mut self) -> u64 {
-        self.0 = (self.0 * 1_103_515_245 + 12_345) % (1 << 31);
-        self.0
-    }
 }
 
 fn rights(book: &Book) -> u64 {
     let rights = Rights::at_start(book);
     let sets = [&[rights.public][..], &rights.readable, &rights.writable].concat();
-    digest(sets.iter().flat_map(|Places(words)| halves(words)))
-}
-
-/// Each word as two numbers, the low half first.
-fn halves(words: &[u64]) -> impl Iterator<Item = u32> + '_ {
-    words
-        .iter()
-        .flat_map(|&word| [word as u32, (word >> 32) as u32])
-}
-
-/// A number that stands for a sequence. The modulus is the largest prime below
-/// 2 to the 32.
-fn digest(numbers: impl Iterator<Item = u32>) -> u64 {
-    numbers.fold(1, |digest, number| {
-        (digest * 16_777_619 + u64::from(number)) % 4_294_967_291
-    })
-}
-
-#[cfg(test)]
-mod tests {
-    use super::*;
-
-    #[test]
-    fn a_digest_depends_on_every_number_and_their_order() {
-        assert_eq!(digest([].into_iter()), 1);
-        assert_eq!(digest([5].into_iter()), 16_777_624);
-        // 16,777,620 · 16,777,619 + 2 is 65,539 · 4,294,967,291 + 654,801,933.
-        assert_eq!(digest([1, 2].into_iter()), 654_801_933);
-        assert_eq!(digest([2, 1].into_iter()), 671_579_551);
-    }
-
-    #[test]
-    fn a_word_is_its_low_half_and_its_high_half() {
-        assert!(halves(&[0x1_0000_0002, 3]).eq([2, 1, 3, 0]));
-    }
-
-    #[test]
-    fn draws_follow_their_rule() {
-        let mut draws = Draws(1);
-        assert_eq!(draws.next(), 1_103_527_590);
-        assert_eq!(draws.next(), 377_401_575);
-        assert_eq!(Draws(u32::MAX.into()).next(), 1_043_980_748);
-    }
+    let words: Vec<u64> = sets.iter().flat_map(|Places(words)| *words).collect();
+    digest_of_words(&words)
 }

@@ -1,73 +1,35 @@
 //! Books that nest as deep as the limits let them.
 
 use super::world::amount;
-use crate::book::{kind, Book, Node, Program, Region, Right, Trigger};
+use crate::book::Book;
+use crate::builder::Builder;
 use crate::random::Random;
+
+pub(super) fn book(random: &mut Random) -> Book {
+    let table = random.below(8) as u8;
+    let key = random.below(8) as i32;
+    let amount = amount(random);
+    let length = random.pick(&[10, 100, 1_024]);
+    let triggers = random.between(1, 8);
+    nested(table, [key, amount], length, triggers)
+}
 
 /// One long chain of commands, with a write at its end, is the program and also
 /// the body of every trigger, and the write sets all of them off. So the chain
 /// nests within itself once for each trigger.
-pub(super) fn book(random: &mut Random) -> Book {
-    let table = random.below(8) as u8;
-    let everywhere = Region {
-        table,
-        owner_first: 0,
-        owner_last: 7,
-        line_first: 0,
-        line_last: 7,
-    };
-    let nodes = chain(random, table);
-    let top = (nodes.len() - 1) as u16;
-    let body = Trigger {
-        region: 0,
-        event: 1,
-        user: 0,
-        body: top,
-    };
-    Book {
-        cells: Vec::new(),
-        regions: vec![everywhere],
-        rights: vec![Right {
-            kind: 2,
-            user: 0,
-            region: 0,
-        }],
-        nodes,
-        programs: vec![Program { user: 0, root: top }],
-        triggers: vec![body; random.between(1, 8)],
+pub(crate) fn nested(table: u8, key_and_amount: [i32; 2], length: usize, triggers: usize) -> Book {
+    let mut b = Builder::new();
+    let everywhere = b.region(table, 0..=7, 0..=7);
+    b.write(0, everywhere);
+    let [key, amount] = key_and_amount.map(|k| b.constant(k));
+    let skip = b.skip();
+    let mut last = b.put(table, key, key, amount);
+    while b.book.nodes.len() < length {
+        last = b.then(skip, last);
     }
-}
-
-fn chain(random: &mut Random, table: u8) -> Vec<Node> {
-    let constant = |k| Node {
-        kind: kind::CONSTANT,
-        k,
-        ..Node::default()
-    };
-    let skip = Node {
-        kind: kind::SKIP,
-        ..Node::default()
-    };
-    let put = Node {
-        kind: kind::PUT,
-        p: table,
-        c: 1,
-        ..Node::default()
-    };
-    let mut nodes = vec![
-        constant(random.below(8) as i32),
-        constant(amount(random)),
-        skip,
-        put,
-    ];
-    let length = random.pick(&[10, 100, 1_024]);
-    while nodes.len() < length {
-        nodes.push(Node {
-            kind: kind::THEN,
-            a: 2,
-            b: (nodes.len() - 1) as u16,
-            ..Node::default()
-        });
+    b.program(0, last);
+    for _ in 0..triggers {
+        b.put_trigger(everywhere, 0, last);
     }
-    nodes
+    b.book
 }

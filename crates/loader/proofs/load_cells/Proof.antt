@@ -5,7 +5,8 @@ use lib.Dec.{lit<}
 use mir.Syntax.{w32}
 use mir.ValLaws.{toZ-ofZ}
 use Rattle.book.specs.Layout.{count}
-use Rattle.loader.proofs.Accepted.{placed, place-inside}
+use Rattle.book.proofs.Accepted.{placed}
+use Rattle.loader.proofs.Accepted.{place-inside}
 use Rattle.loader.proofs.Loads.{Loading, loading-none, loading-length, loading-turn, loading-done}
 use borrow.Author.Needs.{needs}
 use native.Mathlib.Omega.{arith}

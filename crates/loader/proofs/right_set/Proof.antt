@@ -4,7 +4,7 @@ use Prim.Native.Nat.{ℕ, _+_, _*_, _-_, _≤_, _<_}
 use lib.Dec.{lit<}
 use lib.ListN.{length}
 use Rattle.book.specs.Bytes.{byte}
-use Rattle.loader.proofs.Accepted.{placed}
+use Rattle.book.proofs.Accepted.{placed}
 use Rattle.loader.proofs.Rights.{Gathering, gathering-none, region-fits-in, table-fits-in, gathered-kind, gathered-user, gathered-more, gathered}
 use borrow.Author.Needs.{needs}
 use native.Mathlib.Omega.{arith}

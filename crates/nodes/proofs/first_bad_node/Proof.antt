@@ -8,7 +8,7 @@ use Rattle.book.specs.Layout.{count, decode}
 use Rattle.book.specs.Refusals.{bad-node}
 use Rattle.book.specs.declared.Section.{Section}
 use Rattle.book.proofs.First.{NoneBelow, none-yet, none-next, first-found, first-none}
-use Rattle.nodes.proofs.Sites.{pair-inside}
+use Rattle.kinds.proofs.Sites.{pair-inside}
 use Rattle.nodes.proofs.first_bad_node.Statement.{statement}
 use Rattle.nodes.proofs.first_bad_node.Tie as tie
 

@@ -14,7 +14,7 @@ use Rattle.book.specs.Kinds.{no-kind, constant, row-of}
 use Rattle.book.specs.Refusals.{node-at, field-fits, is-zero, node-fits}
 use Rattle.book.specs.declared.Row.{Row}
 use Rattle.book.proofs.Chains.{pass, fail}
-use Rattle.nodes.proofs.Sites.{Inside, node-is, node-inside}
+use Rattle.kinds.proofs.Sites.{Inside, node-is, node-inside}
 use Rattle.nodes.proofs.node_fits.Statement.{statement}
 use Rattle.nodes.proofs.node_fits.Tie as tie
 

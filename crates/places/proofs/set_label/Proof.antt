@@ -1,5 +1,5 @@
 -- `places::set_label` meets its contract: the label's words before the offset are stored in their place.
-use mathlib.Core.Path.{_≡_, _∙_}
+use mathlib.Core.Path.{_≡_, refl, _∙_}
 use Prim.Native.Nat.{ℕ, _*_, _≤_, _-_}
 use lib.ListN.{length, length-set}
 use lib.Seq.{paste, paste-zero}
@@ -10,13 +10,13 @@ use Rattle.places.proofs.set_label.Statement.{statement}
 use Rattle.places.proofs.set_label.Tie as tie
 
 abbrev Inv-loop : tie.InvT-loop
-Inv-loop labels₀ place label offset₀ labels offset = (offset ≤ 8) × (labels ≡ paste labels₀ (8 * place) label offset) × (length labels ≡ 4096)
+Inv-loop labels₀ place label offset₀ labels offset = (offset ≤ 8) × (labels ≡ paste labels₀ (8 * place) label offset) × (length labels ≡ length labels₀)
 
 abbrev μ-loop : tie.MeasureT-loop
 μ-loop labels₀ place label offset₀ labels offset = 8 - offset
 
 loop-holds : tie.Need-loop-holds Inv-loop μ-loop
-loop-holds c = (search needs, paste-zero (c .args .labels .now) (8 * c .args .place) (c .args .t3), c .pre .1)
+loop-holds c = (search needs, paste-zero (c .args .labels .now) (8 * c .args .place) (c .args .t3), refl)
 
 mul-labels : tie.Need-mul-labels Inv-loop μ-loop
 mul-labels c = search needs

@@ -6,8 +6,8 @@ use lib.ListN.{length}
 use Rattle.book.specs.Bytes.{Bytes}
 use Rattle.book.specs.Layout.{count}
 use Rattle.book.specs.declared.Section.{Section}
-use Rattle.loader.proofs.Accepted.{placed}
-use Rattle.writer.proofs.Writes.{below}
+use Rattle.book.proofs.Accepted.{placed}
+use Rattle.encoder.proofs.Writes.{below}
 use Rattle.writer.proofs.Books.{Numbers, numbers, book-steps}
 use borrow.Author.Needs.{needs}
 use native.Mathlib.Omega.{arith}

@@ -1,0 +1,71 @@
+/* Kagyurma: runs, loads and writes trust books. Link libcapi.a, which `rt staticlib capi` makes.
+ *
+ * All memory is the caller's. Each pointer comes with the number of its elements; it is not null, even where that number is 0,
+ * and no two of them overlap where one is written. No function keeps a pointer, allocates memory, or fails in another way than
+ * its answer says. A refused call leaves lent memory as it was.
+ *
+ * Lent memory has exactly 512 amounts, one for each place (64 * table + 8 * owner + line); 8 presence words, with bit
+ * 8 * owner + line of word `table` for a place; and 4096 label words, 8 for each place, with the same bits. Any other number of
+ * elements is refusal 1. */
+#ifndef KAGYURMA_H
+#define KAGYURMA_H
+
+#include <stddef.h>
+#include <stdint.h>
+
+#ifdef __cplusplus
+extern "C" {
+#endif
+
+/* How a run ended. number: 0 if it finished, 1 to 10 if the call was refused, 21 to 30 if the run stopped. at: the index of the
+ * first bad record (0 for refusals 1 to 4), or the node of the stop. cost: what the run spent. bytes: how many bytes of the
+ * trace it wrote. Cost and bytes are 0 if the call was refused. */
+struct kagyurma_ran {
+    uint32_t number;
+    uint32_t at;
+    uint32_t cost;
+    uint32_t bytes;
+};
+
+/* Whether a book was loaded. number: 0 if it was, or the refusal, 1 to 10. at: the index of the first bad record. */
+struct kagyurma_loaded {
+    uint32_t number;
+    uint32_t at;
+};
+
+/* Whether a book was written. number: 0 if it was, or the refusal, 1 to 10. at: the index of the first bad record. length: how
+ * many bytes of the output the book has. */
+struct kagyurma_written {
+    uint32_t number;
+    uint32_t at;
+    uint32_t length;
+};
+
+/* Runs the book in `file` with a budget of at most 1000000 and a trace of at most 65536 bytes. Lent memory is set to the start
+ * state of the book, and then holds the writes of its scripts. The trace gets a record of 8 bytes for each out, grant and
+ * revoke; its later bytes stay as they were. */
+struct kagyurma_ran kagyurma_run(const uint8_t *file, size_t file_len, uint32_t budget,
+                                 int32_t *amounts, size_t amounts_len,
+                                 uint64_t *presence, size_t presence_len,
+                                 uint64_t *labels, size_t labels_len,
+                                 uint8_t *trace, size_t trace_len);
+
+/* Sets lent memory to the start state of the book in `file`: its cells, and for each place the label that holds this place
+ * alone. */
+struct kagyurma_loaded kagyurma_load(const uint8_t *file, size_t file_len,
+                                     int32_t *amounts, size_t amounts_len,
+                                     uint64_t *presence, size_t presence_len,
+                                     uint64_t *labels, size_t labels_len);
+
+/* Writes the book in `file`, with the present cells of lent memory for its own, to the start of `out`, which has at least 60000
+ * bytes. The bytes of `out` after the book stay as they were. */
+struct kagyurma_written kagyurma_write(const uint8_t *file, size_t file_len,
+                                       const int32_t *amounts, size_t amounts_len,
+                                       const uint64_t *presence, size_t presence_len,
+                                       uint8_t *out, size_t out_len);
+
+#ifdef __cplusplus
+}
+#endif
+
+#endif

@@ -1,0 +1,84 @@
+-- What writing gives C, by the writer's answer. Assumes nothing.
+use mathlib.Core.Path.{_≡_, refl, ap}
+use mathlib.Core.List.{List}
+use Prim.Native.Nat.{ℕ, _≤_, _<_}
+use native.Mathlib.Omega.{arith}
+use lib.Dec.{lit<, lit≤}
+use lib.IntN.{ℤ}
+use lib.ListN.{length, length-append}
+use Rattle.book.specs.Records.{cells-format, regions-format, rights-format, nodes-format, programs-format, triggers-format}
+use Rattle.book.specs.Layout.{decode}
+use Rattle.book.specs.Refusals.{need, verdict}
+use Rattle.book.specs.Encode.{extents, pairs, other-sections, trailer-bytes, encode, cells-from, with-cells}
+use Rattle.book.specs.declared.Verdict.{Verdict}
+use Rattle.book.proofs.Accepted.{placed}
+use Rattle.book.proofs.Decoded.{count-regions, count-rights, count-nodes, count-programs, count-triggers}
+use Rattle.book.proofs.Verdicts.{accepts-both}
+use Rattle.encoder.proofs.Codec.{length-section, cells-codec, regions-codec, rights-codec, nodes-codec, programs-codec, triggers-codec}
+use Rattle.encoder.proofs.Writes.{cells-few}
+use Rattle.writer.specs.Write.{write-fits, write-verdict, rewritten, write-answer}
+use Rattle.capi.specs.Calls.{loaded, written, write-numbers, write-call}
+use Rattle.capi.proofs.Indexes.{Low, low-need, low-then, low-verdict}
+use Rattle.book.specs.declared.Verdict.the-variants as verdicts
+use Rattle.writer.specs.Write as writer
+use Rattle.writer.specs.declared.Written as answers
+use Rattle.writer.specs.declared.Written.the-variants as writtens
+
+module _ (file : List ℕ) (amounts : List ℤ) (presence out : List ℕ) where
+  -- no section is longer than it may be
+  length-new : verdict file ≡ verdicts.Accepted → length (rewritten file amounts presence) ≤ 60000
+  unfolding rewritten encode other-sections trailer-bytes with-cells extents pairs cells-format regions-format rights-format nodes-format programs-format triggers-format
+  length-new v =
+      let t = placed file v in
+      let b = decode file in
+      simp length-append
+      (omega (
+        arith,
+        cells-few amounts presence 512 0,
+        length-section cells-codec (cells-from amounts presence 512 0),
+        length-section regions-codec (b .regions),
+        count-regions file,
+        t .few-regions,
+        length-section rights-codec (b .rights),
+        count-rights file,
+        t .few-rights,
+        length-section nodes-codec (b .nodes),
+        count-nodes file,
+        t .few-nodes,
+        length-section programs-codec (b .programs),
+        count-programs file,
+        t .few-programs,
+        length-section triggers-codec (b .triggers),
+        count-triggers file,
+        t .few-triggers,
+      ))
+
+  -- the index and the length that C is given
+  low : (v : Verdict) → Low v → written (write-answer v (rewritten file amounts presence)) .at < 1024
+  unfolding written loaded
+  low verdicts.Accepted l = lit< tt
+  low (verdicts.Refused number index) l = l
+
+  small : (v : Verdict) → (v ≡ verdicts.Accepted → verdict file ≡ verdicts.Accepted) → written (write-answer v (rewritten file amounts presence)) .length ≤ 60000
+  unfolding written
+  small verdicts.Accepted h = length-new (h refl)
+  small (verdicts.Refused number index) h = lit≤ tt
+
+  pub write-low : write-call file amounts presence out .answer .at < 1024
+  unfolding write-call write-numbers writer.write-call write-verdict
+  write-low = low _ (low-then _ _ (low-need 1 _) λ _. low-verdict file)
+
+  pub write-small : write-call file amounts presence out .answer .length ≤ 60000
+  unfolding write-call write-numbers writer.write-call write-verdict
+  write-small = small (write-verdict file amounts presence out) (λ e. accepts-both (need 1 (write-fits amounts presence out)) _ e .1)
+
+  module _ (a : answers.Written) (o : List ℕ) (e : record { answer = a; out = o } ≡ writer.write-call file amounts presence out) where
+    pub write-refused : (number index : ℕ) → a ≡ writtens.Refused number index
+        → record { answer = record { number = number; at = index; length = 0 }; out = o } ≡ write-call file amounts presence out
+    unfolding write-call write-numbers written
+    write-refused number index q = rw q at (ap write-numbers e)
+
+    pub write-wrote : (n : ℕ) → a ≡ writtens.Wrote n
+        → record { answer = record { number = 0; at = 0; length = n }; out = o } ≡ write-call file amounts presence out
+    unfolding write-call write-numbers written
+    write-wrote n q = rw q at (ap write-numbers e)

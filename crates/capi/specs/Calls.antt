@@ -1,0 +1,70 @@
+-- The calls as C sees them: the numbers of each answer, and lent memory as the call leaves it.
+use mathlib.Core.List.{List}
+use mathlib.Core.Bool.{true}
+use Prim.Native.Nat.{ℕ}
+use lib.IntN.{ℤ}
+use Rattle.book.specs.declared.Verdict.{Verdict}
+use Rattle.monitor.specs.Call.{Memory, Result, values, call}
+use Rattle.monitor.specs.declared.Answer.{Answer}
+use Rattle.capi.specs.declared.Ran.{Ran}
+use Rattle.capi.specs.declared.Loaded.{Loaded}
+use Rattle.capi.specs.declared.Written.{Written}
+use Rattle.book.specs.declared.Verdict.the-variants as verdicts
+use Rattle.loader.specs.Load as loader
+use Rattle.writer.specs.Write as writer
+use Rattle.writer.specs.declared.Written as answers
+use Rattle.writer.specs.declared.Written.the-variants as writtens
+
+-- ---- running
+
+-- the paper's numbers for an answer
+unfoldable pub ran : Answer → Ran
+ran a = record { number = values a .number; at = values a .at; cost = values a .cost; bytes = values a .bytes }
+
+pub record RunCall : Type 0 where
+  pub answer : Ran
+  pub memory : Memory
+
+-- a call of the runner, with its answer in numbers
+unfoldable pub run-numbers : Result → RunCall
+run-numbers c = record { answer = ran (c .answer); memory = c .memory }
+
+-- the run that makes the tests of labels
+unfoldable pub run-call : List ℕ → ℕ → Memory → RunCall
+run-call file budget m = run-numbers (call true file budget m)
+
+-- ---- loading
+
+unfoldable pub loaded : Verdict → Loaded
+loaded verdicts.Accepted = record { number = 0; at = 0 }
+loaded (verdicts.Refused number index) = record { number = number; at = index }
+
+pub record LoadCall : Type 0 where
+  pub answer : Loaded
+  pub amounts : List ℤ
+  pub presence : List ℕ
+  pub labels : List ℕ
+
+-- a call of the loader, with its answer in numbers
+unfoldable pub load-numbers : loader.Loaded → LoadCall
+load-numbers c = record { answer = loaded (c .answer); amounts = c .amounts; presence = c .presence; labels = c .labels }
+
+unfoldable pub load-call : (file : List ℕ) (amounts : List ℤ) (presence labels : List ℕ) → LoadCall
+load-call file amounts presence labels = load-numbers (loader.load-call file amounts presence labels)
+
+-- ---- writing
+
+unfoldable pub written : answers.Written → Written
+written (writtens.Refused number index) = record { number = number; at = index; length = 0 }
+written (writtens.Wrote length) = record { number = 0; at = 0; length = length }
+
+pub record WriteCall : Type 0 where
+  pub answer : Written
+  pub out : List ℕ
+
+-- a call of the writer, with its answer in numbers
+unfoldable pub write-numbers : writer.WriteCall → WriteCall
+write-numbers c = record { answer = written (c .answer); out = c .out }
+
+unfoldable pub write-call : (file : List ℕ) (amounts : List ℤ) (presence out : List ℕ) → WriteCall
+write-call file amounts presence out = write-numbers (writer.write-call file amounts presence out)

@@ -1,0 +1,107 @@
+// The runner, the loader and the writer for C and Rust. include/kagyurma.h declares them.
+ghost use mathlib.Core.Path.{_≡_};
+ghost use Rattle.capi.specs.Calls.{run-call, load-call, write-call};
+
+// How a run ended: the paper's number, 0 if it finished; the node of a stop or the index of a refusal; the cost spent and the
+// trace bytes written.
+#[repr(C)]
+pub struct Ran {
+    pub number: u32,
+    pub at: u32,
+    pub cost: u32,
+    pub bytes: u32,
+}
+
+// Whether a book was loaded: the refusal's number, 0 if there was none, and its index.
+#[repr(C)]
+pub struct Loaded {
+    pub number: u32,
+    pub at: u32,
+}
+
+// Whether a book was written: the refusal's number, 0 if there was none, and its index; the length written.
+#[repr(C)]
+pub struct Written {
+    pub number: u32,
+    pub at: u32,
+    pub length: u32,
+}
+
+// Runs the book in a file in lent memory.
+#[no_mangle]
+pub extern "C" fn kagyurma_run(
+    file: &[u8],
+    budget: u32,
+    amounts: &mut [i32],
+    presence: &mut [u64],
+    labels: &mut [u64],
+    trace: &mut [u8],
+) -> Ran
+    ensures { λ r. ⌜ record { answer = r; memory = record { amounts = now (amounts .exit); presence = now (presence .exit); labels = now (labels .exit); trace = now (trace .exit) } }
+        ≡ run-call (now (file .entry)) budget (record { amounts = now (amounts .entry); presence = now (presence .entry); labels = now (labels .entry); trace = now (trace .entry) }) ⌝ }
+{
+    match runner::run(file, budget, amounts, presence, labels, trace) {
+        monitor::Answer::Refused(number, index) => Ran {
+            number,
+            at: index as u32,
+            cost: 0,
+            bytes: 0,
+        },
+        monitor::Answer::Stopped(number, node, cost, bytes) => Ran {
+            number,
+            at: node as u32,
+            cost,
+            bytes: bytes as u32,
+        },
+        monitor::Answer::Finished(cost, bytes) => Ran {
+            number: 0,
+            at: 0,
+            cost,
+            bytes: bytes as u32,
+        },
+    }
+}
+
+// Sets lent memory to the start state of the book in a file.
+#[no_mangle]
+pub extern "C" fn kagyurma_load(
+    file: &[u8],
+    amounts: &mut [i32],
+    presence: &mut [u64],
+    labels: &mut [u64],
+) -> Loaded
+    ensures { λ r. ⌜ record { answer = r; amounts = now (amounts .exit); presence = now (presence .exit); labels = now (labels .exit) }
+        ≡ load-call (now (file .entry)) (now (amounts .entry)) (now (presence .entry)) (now (labels .entry)) ⌝ }
+{
+    match loader::load(file, amounts, presence, labels) {
+        book::Verdict::Accepted => Loaded { number: 0, at: 0 },
+        book::Verdict::Refused(number, index) => Loaded {
+            number,
+            at: index as u32,
+        },
+    }
+}
+
+// Writes the book in a file with the cells of lent memory for its own.
+#[no_mangle]
+pub extern "C" fn kagyurma_write(
+    file: &[u8],
+    amounts: &[i32],
+    presence: &[u64],
+    out: &mut [u8],
+) -> Written
+    ensures { λ r. ⌜ record { answer = r; out = now (out .exit) } ≡ write-call (now (file .entry)) (now (amounts .entry)) (now (presence .entry)) (now (out .entry)) ⌝ }
+{
+    match writer::write(file, amounts, presence, out) {
+        writer::Written::Refused(number, index) => Written {
+            number,
+            at: index as u32,
+            length: 0,
+        },
+        writer::Written::Wrote(length) => Written {
+            number: 0,
+            at: 0,
+            length: length as u32,
+        },
+    }
+}

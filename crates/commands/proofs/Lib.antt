@@ -1,0 +1,9 @@
+pub mod Amounts
+pub mod Firing
+pub mod Lents
+pub mod Meanings
+pub mod Numbers
+pub mod Orders
+pub mod Posting
+pub mod Steps
+pub mod Turns

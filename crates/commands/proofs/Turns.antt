@@ -1,0 +1,180 @@
+-- The turns of a while. Assumes nothing.
+use mathlib.Core.Path.{_≡_, sym, ap, _∙_}
+use mathlib.Core.List.{List, [], _++_}
+use mathlib.Core.Bool.{Bool, true, false}
+use Prim.Native.Nat.{ℕ, pred, _+_, _-_, _*_, _≤_, _<_}
+use native.Mathlib.Omega.{arith}
+use lib.IntN.{ℤ}
+use lib.ListN.{length, length-append}
+use Rattle.places.specs.Sets.{union}
+use Rattle.book.specs.Records.{NodeRecord}
+use Rattle.book.specs.Layout.{decode}
+use Rattle.book.specs.Refusals.{node-at, is-zero}
+use Rattle.monitor.specs.Labelled.{Label, bottom, Lab}
+use Rattle.monitor.specs.Run.{State, Rec, Out, M, after, next, _>>=_, _>>_, ret}
+use Rattle.monitor.specs.Rules.{Env, within-label, choose, cost-at, command, exec}
+use Rattle.machine.specs.Ready.{script-of, Lengths}
+use Rattle.machine.specs.Store.{Store, state, with-records}
+use Rattle.machine.specs.Promises.{Gives, Evaluates, ran, stop-of, ended, Does, env, Enters, Commands}
+use Rattle.machine.specs.declared.Value.the-variants as value
+use Rattle.machine.specs.declared.Valued.{Valued}
+use Rattle.machine.specs.declared.Outcome.the-variants.{Done, Stopped}
+use Rattle.machine.specs.declared.Ran.{Ran}
+use Rattle.machine.proofs.Traces.{with-none}
+use Rattle.machine.proofs.Runs.{after-none, after-ended, next-done, next-known, does-as, quietly, then-stops, then-goes, value-stops, value-goes}
+use Rattle.machine.proofs.WriteParts.{after-after}
+use Rattle.commands.proofs.Steps.{joined, same-length, cells, same-trace, entered, spent, enters-not}
+use Rattle.commands.proofs.Meanings.{as-while, command-is}
+
+-- A while that has turned: what it does from its first test on is the records so far, and then what it does from here on. The context
+-- has the labels of all tests so far; how much fuel is left depends on how much there was.
+pub record Turned (file : List ℕ) (user above n : ℕ) (ctx : Label) (vars : ℕ → Lab ℤ) (x : Store) (left used : ℕ) (ctx' : Label) (vars' : ℕ → Lab ℤ)
+    (x' : Store) (left' used' : ℕ) : Type 0 where
+  pub records : List Rec
+  pub rest : (fuel : ℕ) → left ≤ fuel → ℕ
+  pub enough : (fuel : ℕ) (h : left ≤ fuel) → left' ≤ rest fuel h
+  pub is : (fuel : ℕ) (h : left ≤ fuel)
+      → Commands file ctx user above n fuel (state vars x left used)
+      ≡ after records (Commands file ctx' user above n (rest fuel h) (state vars' x' left' used'))
+  pub trace-is : x' .trace ≡ with-records (x .trace) used records
+  pub used-is : used' ≡ used + 8 * length records
+  pub fits : used' ≤ length (x .trace)
+  pub within : left' ≤ left
+
+-- the invariant of the loop: the test a, the body b and the cost are the node's
+pub record Turning (file : List ℕ) (user above n a b cost : ℕ) (ctx : Label) (vars : ℕ → Lab ℤ) (x : Store) (left used : ℕ) (ctx' : Label)
+    (vars' : ℕ → Lab ℤ) (x' : Store) (left' used' : ℕ) : Type 0 where
+  pub turned : Turned file user above n ctx vars x left used ctx' vars' x' left' used'
+  pub cells : Lengths (x' .amounts) (x' .presence) (x' .labels)
+  pub test : a ≡ node-at (decode file) n .a
+  pub body : b ≡ node-at (decode file) n .b
+  pub price : cost ≡ cost-at (script-of file) n
+
+-- which way a test goes
+stays : (z : ℤ) (m k : M (Unit {0})) (s : State) → is-zero z ≡ false → choose z m k s ≡ m s
+unfolding choose
+stays z m k s e = ap (λ (y : Bool). elim y as (λ w. Out (Unit {0})) [ true ↦ k s | false ↦ m s ]) e
+
+leaves : (z : ℤ) (m k : M (Unit {0})) (s : State) → is-zero z ≡ true → choose z m k s ≡ k s
+unfolding choose
+leaves z m k s e = ap (λ (y : Bool). elim y as (λ w. Out (Unit {0})) [ true ↦ k s | false ↦ m s ]) e
+
+module _ (file : List ℕ) (user above n : ℕ) where
+  abbrev node : NodeRecord
+  node = node-at (decode file) n
+
+  -- at the first test
+  pub unturned : (ctx : Label) (vars : ℕ → Lab ℤ) (x : Store) (left used : ℕ)
+      → used ≤ length (x .trace) → Turned file user above n ctx vars x left used ctx vars x left used
+  unturned ctx vars x left used u = record {
+    records = [];
+    rest = λ fuel h. fuel;
+    enough = λ fuel h. h;
+    is = λ fuel h. sym (after-none (Commands file ctx user above n fuel (state vars x left used)));
+    trace-is = sym (with-none (x .trace) used);
+    used-is = omega arith;
+    fits = u;
+    within = omega arith;
+  }
+
+  module _ {ctx ctx' : Label} {vars vars' : ℕ → Lab ℤ} {x x' : Store} {left left' used used' : ℕ}
+      (d : Turned file user above n ctx vars x left used ctx' vars' x' left' used') where
+    pub turned-trace : length (x' .trace) ≡ length (x .trace)
+    turned-trace = same-length (x .trace) used (d .records) (d .trace-is) (d .used-is) (d .fits)
+
+    pub turned-room : used' ≤ length (x' .trace)
+    turned-room = omega (arith, d .fits, turned-trace)
+
+    -- what the rest does, all does
+    pub turned-ends : {r : Ran} {vars'' : ℕ → Lab ℤ} {x'' : Store}
+        → Does (Commands file ctx' user above n) vars' x' left' used' r vars'' x'' → Does (Commands file ctx user above n) vars x left used r vars'' x''
+    turned-ends {r} {vars''} {x''} e = record {
+      records = d .records ++ e .records;
+      obstacle = e .obstacle;
+      is = λ fuel h. d .is fuel h
+          ∙ ap (after (d .records)) (e .is (d .rest fuel h) (d .enough fuel h))
+          ∙ after-ended (r .outcome) (e .obstacle) (d .records) (e .records) (state vars'' x'' (r .left) (r .used));
+      trace-is = joined (x .trace) used (d .records) (e .records) (omega (arith, d .used-is, d .fits)) (d .trace-is) (d .used-is) (e .trace-is);
+      used-is = rw length-append (omega (arith, d .used-is, e .used-is));
+      fits = omega (arith, e .fits, turned-trace);
+      within = omega (arith, d .within, e .within);
+    }
+
+    pub turned-more : {ctx'' : Label} {vars'' : ℕ → Lab ℤ} {x'' : Store} {left'' used'' : ℕ}
+        → Turned file user above n ctx' vars' x' left' used' ctx'' vars'' x'' left'' used''
+        → Turned file user above n ctx vars x left used ctx'' vars'' x'' left'' used''
+    turned-more e = record {
+      records = d .records ++ e .records;
+      rest = λ fuel h. e .rest (d .rest fuel h) (d .enough fuel h);
+      enough = λ fuel h. e .enough (d .rest fuel h) (d .enough fuel h);
+      is = λ fuel h. d .is fuel h ∙ ap (after (d .records)) (e .is (d .rest fuel h) (d .enough fuel h)) ∙ after-after (d .records) (e .records) _;
+      trace-is = joined (x .trace) used (d .records) (e .records) (omega (arith, d .used-is, d .fits)) (d .trace-is) (d .used-is) (e .trace-is);
+      used-is = rw length-append (omega (arith, d .used-is, e .used-is));
+      fits = omega (arith, e .fits, turned-trace);
+      within = omega (arith, d .within, e .within);
+    }
+
+  -- ---- 20: one turn, its test a and its body b
+
+  turn : Label → ℕ → ℕ → Lab ℤ → M (Unit {0})
+  turn ctx b fuel y =
+      let inner : Env = within-label (env ctx user above) y in
+      choose (y .val) (exec (script-of file) true fuel inner b >> exec (script-of file) true fuel inner n) (ret tt)
+
+  module _ (kind : node .kind ≡ 20) {a b : ℕ} (ea : a ≡ node .a) (eb : b ≡ node .b) (ctx : Label) where
+    while-is : (fuel : ℕ) → Commands file ctx user above n fuel ≡ (Evaluates file a fuel >>= turn ctx b fuel)
+    unfolding command turn
+    while-is fuel = command-is file ctx user above n (as-while node kind) fuel
+        ∙ ap (λ (j : ℕ). Evaluates file j fuel >>= turn ctx (node .b) fuel) (sym ea)
+        ∙ ap (λ (j : ℕ). Evaluates file a fuel >>= turn ctx j fuel) (sym eb)
+
+    module _ {vars : ℕ → Lab ℤ} {x : Store} {left used : ℕ} {g : Valued} (d : Gives (Evaluates file a) (cells x) vars left g) where
+      pub test-stops : {r : Ran} {number i : ℕ} → g .answer ≡ value.Stopped number i → r ≡ ran (stop-of (g .answer)) (g .left) used
+          → used ≤ length (x .trace) → Does (Commands file ctx user above n) vars x left used r vars x
+      test-stops e q u = does-as while-is (value-stops d (turn ctx b) _ _ e q u)
+
+      module _ {z : ℤ} (e : g .answer ≡ value.Known z) where
+        pub test-ends : {r : Ran} → is-zero z ≡ true → r ≡ ran Done (g .left) used → used ≤ length (x .trace)
+            → Does (Commands file ctx user above n) vars x left used r vars x
+        unfolding turn ended
+        test-ends o q u = does-as while-is (value-goes d (turn ctx b) z e
+            (quietly Done bottom (g .left) q (omega arith) u λ fuel h. leaves z _ _ (state vars x (g .left) used) o))
+
+        module _ (o : is-zero z ≡ false) {inner : Label} (ei : inner ≡ union ctx (g .label)) {r : Ran} {vars' : ℕ → Lab ℤ} {x' : Store}
+            (w : Does (Enters file inner user above b) vars x (g .left) used r vars' x') where
+          turn-is : (fuel : ℕ) → turn ctx b fuel (record { val = z; lab = g .label })
+              ≡ (Enters file inner user above b fuel >> Enters file inner user above n fuel)
+          unfolding turn within-label
+          turn-is fuel =
+              let wider : Label = union ctx (g .label) in
+              (λ i s. stays z (Enters file wider user above b fuel >> Enters file wider user above n fuel) (ret tt) s o i)
+              ∙ ap (λ (c : Label). Enters file c user above b fuel >> Enters file c user above n fuel) (sym ei)
+
+          pub body-stops : {number i : ℕ} → r .outcome ≡ Stopped number i → Does (Commands file ctx user above n) vars x left used r vars' x'
+          body-stops h = does-as while-is (value-goes d (turn ctx b) z e (does-as turn-is (then-stops (Enters file inner user above n) w _ _ h)))
+
+          module _ (h : r .outcome ≡ Done) {cost : ℕ} (ec : cost ≡ cost-at (script-of file) n) where
+            -- the next test cannot be paid
+            pub body-ends : {r' : Ran} → r .left < cost → r' ≡ ran (Stopped 21 n) (r .left) (r .used)
+                → Does (Commands file ctx user above n) vars x left used r' vars' x'
+            body-ends l q = does-as while-is (value-goes d (turn ctx b) z e
+                (does-as turn-is (then-goes w h (enters-not file inner user above n ec l q (omega (arith, w .fits, same-trace w))))))
+
+            -- the next test is paid
+            pub body-turns : cost ≤ r .left → Turned file user above n ctx vars x left used inner vars' x' (r .left - cost) (r .used)
+            body-turns l = record {
+              records = w .records;
+              rest = λ fuel q. pred fuel;
+              enough = λ fuel q. spent file inner user above n ec fuel l (omega (arith, d .within, w .within)) q;
+              is = λ fuel q. ap (λ m. m (state vars x left used)) (while-is fuel)
+                  ∙ ap (λ o. next o (turn ctx b fuel)) (d .is fuel q _ _)
+                  ∙ next-known (g .answer) (g .label) (state vars x (g .left) used) (turn ctx b fuel) z e
+                  ∙ ap (λ m. m (state vars x (g .left) used)) (turn-is fuel)
+                  ∙ ap (λ o. next o (λ _. Enters file inner user above n fuel)) (w .is fuel (omega (arith, d .within)))
+                  ∙ next-done (r .outcome) (w .obstacle) (w .records) (state vars' x' (r .left) (r .used)) (Enters file inner user above n fuel) h
+                  ∙ ap (after (w .records)) (entered file inner user above n ec vars' x' (r .left) (r .used) fuel l (omega (arith, d .within, w .within)));
+              trace-is = w .trace-is;
+              used-is = w .used-is;
+              fits = w .fits;
+              within = omega (arith, d .within, w .within);
+            }

@@ -1,0 +1,4 @@
+pub mod Codec
+pub mod Stores
+pub mod Writes
+pub mod Steps

@@ -1,0 +1,103 @@
+-- `encoder::write_cells` meets its contract: the present cells below `place` are written.
+use mathlib.Core.Path.{sym, _∙_}
+use mathlib.Core.Logic.{⊎-elim}
+use Prim.Native.Nat.{_+_, _-_, _≤_, _<_}
+use lib.IntN.{ℤ, pos}
+use lib.ListN.{length, getD}
+use mir.Syntax.{w32}
+use mir.ValLaws.{toZ-ofZ}
+use Rattle.book.specs.Records.{cells-format}
+use Rattle.encoder.proofs.Stores.{same-length as stored-length}
+use Rattle.encoder.proofs.Writes.{Writing, writing-none, end-small, writing-absent, writing-present, writing-done}
+use borrow.Author.Needs.{needs}
+use native.Mathlib.Omega.{arith}
+use Rattle.encoder.proofs.write_cells.Statement.{statement}
+use Rattle.encoder.proofs.write_cells.Tie as tie
+
+abbrev Inv-loop : tie.InvT-loop
+Inv-loop amounts presence out₀ end₀ place₀ out end place = Writing amounts presence out₀ out end place
+
+abbrev μ-loop : tie.MeasureT-loop
+μ-loop amounts presence out₀ end₀ place₀ out end place = 512 - place
+
+loop-holds : tie.Need-loop-holds Inv-loop μ-loop
+loop-holds c = writing-none
+
+contains-requires : tie.Need-contains-requires Inv-loop μ-loop
+contains-requires c κs = search needs
+
+mul-put-cell : tie.Need-mul-put-cell Inv-loop μ-loop
+mul-put-cell c = search needs
+
+shared-slice-copy-out-put-cell : tie.Need-shared-slice-copy-out-put-cell Inv-loop μ-loop
+shared-slice-copy-out-put-cell c = search needs
+
+-- a place is left
+left : (c : tie.In-loop Inv-loop μ-loop) → c .before .loop .place < 512
+left c = omega (arith, c .loop-test .taken)
+
+-- there is room for a record at the end
+room : (c : tie.In-loop Inv-loop μ-loop) → c .before .loop .end + 8 ≤ length (c .before .before .before .args .out .now)
+room c =
+    let l = c .before in
+    let s = l .before .before in
+    omega (arith, end-small (l .loop .inv), s .pre .1, left c)
+
+put-cell-requires : tie.Need-put-cell-requires Inv-loop μ-loop
+put-cell-requires c κs =
+    let t = c .before .before .before .before in
+    (omega (arith, room t, stored-length (t .before .loop .inv .written .bytes-are)), left t)
+
+add-end : tie.Need-add-end Inv-loop μ-loop
+add-end c =
+    let t = c .before .before .before .before .before .before .before in
+    omega (arith, room t)
+
+add-place : tie.Need-add-place Inv-loop μ-loop
+add-place c = search needs
+
+loop-less : tie.Need-loop-less Inv-loop μ-loop
+loop-less c = search needs
+
+loop-again : tie.Need-loop-again Inv-loop μ-loop
+unfolding cells-format
+loop-again c =
+    let t = c .before .before in
+    let l = t .before in
+    let s = l .before .before in
+    let amount : ℤ = getD (s .args .amounts .now) (l .loop .place) (pos 0) in
+    ⊎-elim
+    (λ w.
+    rw (w .6, w .7)
+    (writing-present (l .loop .inv) (left t) (w .3 .last .0) (sym (c .before .contains .ensures) ∙ w .0 .taken) (room t)
+    (rw (toZ-ofZ w32 amount (record { sfits = w .2 .given })) at (w .3 .ensures))))
+    (λ w. rw (w .1, w .2) (writing-absent (l .loop .inv) (left t) (sym (c .before .contains .ensures) ∙ w .0 .left)))
+    (c .if1 .came)
+
+same-length : tie.Need-same-length Inv-loop μ-loop
+same-length c = stored-length (c .before .loop .inv .written .bytes-are)
+
+returns : tie.Need-returns Inv-loop μ-loop
+returns c =
+    let w = c .before .loop .inv in
+    let end : 512 ≤ c .before .loop .place = omega arith in
+    let done = writing-done w end in
+    (done .0, done .1, omega (arith, end-small w, w .upto))
+
+pub write-cells-spec : {M : Type 1} → statement M
+write-cells-spec =
+    tie.close
+    (tie.spec
+    Inv-loop
+    μ-loop
+    loop-holds
+    contains-requires
+    mul-put-cell
+    shared-slice-copy-out-put-cell
+    put-cell-requires
+    add-end
+    add-place
+    loop-less
+    loop-again
+    same-length
+    returns)

@@ -1,0 +1,121 @@
+-- An expression node of an accepted file, as the code that evaluates it meets it. Assumes nothing.
+use mathlib.Core.Path.{_≡_, refl, sym, ap, _∙_}
+use mathlib.Core.List.{List}
+use mathlib.Core.Bool.{Bool, true, false, cond, _||_}
+use Prim.Native.Nat.{ℕ, _+_, _-_, _*_, _≤_, _<_}
+use native.Mathlib.Decide.{ℕ-discrete}
+use native.Mathlib.Omega.{arith}
+use lib.IntN.{ℤ, pos}
+use lib.ListN.{getD}
+use borrow.Author.Tests.{le-leb, lt-leb}
+use Rattle.places.specs.Labels.{label-at}
+use Rattle.book.specs.Bytes.{byte, le16, le32, signed32}
+use Rattle.book.specs.Layout.{decode}
+use Rattle.book.specs.Kinds.{expression, between, cost-of, sort-of}
+use Rattle.book.specs.Refusals.{node-at}
+use Rattle.monitor.specs.Labelled.{Label, bottom, Lab}
+use Rattle.monitor.specs.Run.{Cell}
+use Rattle.machine.specs.Ready.{script-of, Ready, Node}
+use Rattle.machine.specs.Store.{vars-of}
+use Rattle.machine.specs.Promises.{Gives, Evaluates, Expresses}
+use Rattle.machine.specs.declared.Value.the-variants.{Known, Stopped}
+use Rattle.machine.specs.declared.Valued.{Valued}
+use Rattle.machine.proofs.Nodes.{script-node, Read, read-at, Child, kind-below, cost-read, variable-p, pair-a, pair-b, query-p, query-a, query-b, query-c, query-d}
+use Rattle.expressions.proofs.Steps.{valued, paid, unpaid}
+use Rattle.expressions.proofs.Parts.{constant-gives, variable-gives}
+
+-- no entry is free, so that fuel lasts
+cost-least : (kind : ℕ) → 1 ≤ cost-of kind
+unfolding cost-of
+cost-least kind = go (between 8 11 kind)
+  where
+    go : (y : Bool) → 1 ≤ cond y 4 1
+    go true = omega arith
+    go false = omega arith
+
+-- the kinds of expressions, by the tests that tell them apart
+expression-kind : (kind : ℕ) → sort-of kind ≡ expression → (between 1 6 kind || between 8 11 kind) ≡ true
+unfolding sort-of
+expression-kind kind e = go (between 1 6 kind || between 8 11 kind) (between 16 26 kind) e
+  where
+    go : (x y : Bool) → cond x expression (cond y 2 0) ≡ expression → x ≡ true
+    go true y q = refl
+    go false true q = absurd (omega arith)
+    go false false q = absurd (omega arith)
+
+-- a kind that is neither 1 nor 2 and below 7 has two parts, and the others are queries
+pub pair-kind : (kind : ℕ) → sort-of kind ≡ expression → (kind ≡ 1 → ⊥) → (kind ≡ 2 → ⊥) → kind < 7 → between 3 6 kind ≡ true
+unfolding sort-of
+pair-kind kind e p q h = go (ℕ-discrete kind 0)
+  where
+    go : Dec (kind ≡ 0) → between 3 6 kind ≡ true
+    go (yes z) = absurd (omega (arith, ap sort-of (sym z) ∙ e))
+    go (no z) = rw (le-leb 3 kind (omega arith), le-leb kind 6 (omega arith))
+
+pub query-kind : (kind : ℕ) → sort-of kind ≡ expression → 7 ≤ kind → between 8 11 kind ≡ true
+query-kind kind e h = rw (le-leb 1 kind (omega arith), lt-leb kind 6 (omega arith)) at (expression-kind kind e)
+
+-- a node, its record in the file and its cost
+module _ {file : List ℕ} {nodes : ℕ} {costs : List ℕ} {n : ℕ} (ready : Ready file nodes costs) (node : Node expression file n) where
+  pub read : Read file (nodes + 16 * n) (node-at (decode file) n)
+  read = read-at file (ready .accepted) n (node .inside) nodes (ready .nodes-start)
+
+  pub kind-inside : byte file (nodes + 16 * n) < 27
+  kind-inside = rw (read .kind) (kind-below file (ready .accepted) n (node .inside))
+
+  cost-is : cost-of (node-at (script-of file) n .kind) ≡ getD costs (byte file (nodes + 16 * n)) 0
+  cost-is = rw (script-node file n, read .kind, cost-read file (ready .accepted) n (node .inside) costs (ready .costs-are))
+
+  abbrev cost : ℕ
+  cost = getD costs (byte file (nodes + 16 * n)) 0
+
+  module _ (cells : ℕ → Lab Cell) (vars : ℕ → Lab ℤ) (left : ℕ) where
+    -- 21: the cost in the table would pass the budget
+    pub stops-21 : left < cost → (label : Label) → Gives (Evaluates file n) cells vars left (valued (Stopped 21 n) left label)
+    stops-21 h label = unpaid cells vars (script-of file) n left cost cost-is h label
+
+    -- the cost is taken off the budget, and the node's kind says the rest
+    pub pays : cost ≤ left → {r : Valued} → Gives (Expresses file n) cells vars (left - cost) r → Gives (Evaluates file n) cells vars left r
+    pays h {r} g = paid cells vars (script-of file) n left cost cost-is (rw (sym cost-is) (cost-least _)) h r g
+
+    -- 1 constant k, as it was read
+    pub reads-constant : byte file (nodes + 16 * n) ≡ 1 → (z : ℤ) → z ≡ signed32 (le32 file (nodes + 16 * n + 10))
+        → Gives (Expresses file n) cells vars left (valued (Known z) left bottom)
+    reads-constant e z q = rw (q ∙ read .k) (constant-gives file n cells vars left (sym (read .kind) ∙ e))
+
+  -- 2 variable p, as it was read
+  module _ (e : byte file (nodes + 16 * n) ≡ 2) {p : ℕ} (p-is : p ≡ byte file (nodes + 16 * n + 1)) where
+    pub variable-inside : p < 16
+    variable-inside = rw (p-is ∙ read .p) (variable-p file (ready .accepted) n (node .inside) (sym (read .kind) ∙ e))
+
+    pub reads-variable : (cells : ℕ → Lab Cell) (vars : List ℤ) (tags : List ℕ) (left : ℕ)
+        → Gives (Expresses file n) cells (vars-of vars tags) left (valued (Known (getD vars p (pos 0))) left (label-at tags p))
+    unfolding vars-of
+    reads-variable cells vars tags left = rw (p-is ∙ read .p) (variable-gives file n cells (vars-of vars tags) left (sym (read .kind) ∙ e))
+
+  -- the parts of the others, by the numbers that were read
+  child-of : {m v : ℕ} → v ≡ m → Child expression file n m → Child expression file n v
+  child-of q c = rw q c
+
+  module _ (e : between 3 6 (node-at (decode file) n .kind) ≡ true) {v : ℕ} where
+    pub pair-first : v ≡ le16 file (nodes + 16 * n + 2) → Child expression file n v
+    pair-first q = child-of (q ∙ read .a) (pair-a file (ready .accepted) n (node .inside) e)
+
+    pub pair-second : v ≡ le16 file (nodes + 16 * n + 4) → Child expression file n v
+    pair-second q = child-of (q ∙ read .b) (pair-b file (ready .accepted) n (node .inside) e)
+
+  module _ (e : between 8 11 (node-at (decode file) n .kind) ≡ true) {v : ℕ} where
+    pub query-table : v ≡ byte file (nodes + 16 * n + 1) → v < 8
+    query-table q = rw (q ∙ read .p) (query-p file (ready .accepted) n (node .inside) e)
+
+    pub query-first : v ≡ le16 file (nodes + 16 * n + 2) → Child expression file n v
+    query-first q = child-of (q ∙ read .a) (query-a file (ready .accepted) n (node .inside) e)
+
+    pub query-second : v ≡ le16 file (nodes + 16 * n + 4) → Child expression file n v
+    query-second q = child-of (q ∙ read .b) (query-b file (ready .accepted) n (node .inside) e)
+
+    pub query-third : v ≡ le16 file (nodes + 16 * n + 6) → Child expression file n v
+    query-third q = child-of (q ∙ read .c) (query-c file (ready .accepted) n (node .inside) e)
+
+    pub query-fourth : v ≡ le16 file (nodes + 16 * n + 8) → Child expression file n v
+    query-fourth q = child-of (q ∙ read .d) (query-d file (ready .accepted) n (node .inside) e)

@@ -1,0 +1,4 @@
+pub mod Entries
+pub mod Parts
+pub mod Signed
+pub mod Steps

@@ -1,0 +1,96 @@
+-- Signed numbers: what 64 bits hold of sums and differences of 32, and the tests of the code as those of the rules. Assumes nothing.
+use mathlib.Core.Path.{_≡_, refl, sym, ap, _∙_}
+use mathlib.Core.Bool.{Bool, true, false, cond, _&&_, false≢true}
+use Prim.Native.Nat.{ℕ, zero, suc, _-_, _^_, _<_}
+use native.Mathlib.Nat.{le-refl, le-antisymm}
+use native.Mathlib.Omega.{arith}
+use lib.Dec.{leb, ltb}
+use lib.IntN.{ℤ, pos, negsuc, _+ℤ_, _-ℤ_, negℤ}
+use lib.Signed.{mag, ltZ, leZ}
+use mir.Syntax.{Width, w32, w64}
+use mir.Val.{SFits, hbits, toZ, ofZ}
+use mir.Facts.{toZ-ofZ, sfits-widen}
+use borrow.Author.Tests.{le-ltb, le-leb, ltb-true, ltb-false, leb-true}
+use Rattle.book.proofs.Chains.{both}
+use Rattle.monitor.specs.Rules.{fits-32, from-bool, equals}
+
+-- ---- 32 bits
+
+pub below : (z : ℤ) → ltZ z (negsuc 2147483647) ≡ true → fits-32 z ≡ false
+unfolding fits-32
+below (pos n) e = absurd (false≢true e)
+below (negsuc n) e = le-ltb n 2147483648 (omega (arith, ltb-true 2147483647 n e))
+
+pub above : (z : ℤ) → ltZ (pos 2147483647) z ≡ true → fits-32 z ≡ false
+unfolding fits-32
+above (pos n) e = le-ltb n 2147483648 (omega (arith, ltb-true 2147483647 n e))
+above (negsuc n) e = absurd (false≢true e)
+
+pub within : (z : ℤ) → ltZ z (negsuc 2147483647) ≡ false → ltZ (pos 2147483647) z ≡ false → SFits w32 z
+within (pos n) e f = record { sfits = omega (arith, ltb-false 2147483647 n f) }
+within (negsuc n) e f = record { sfits = omega (arith, ltb-false 2147483647 n e) }
+
+-- ---- sums and differences
+
+mag-cond : (t : Bool) (x y n : ℕ) → x < n → y < n → mag (cond t (negsuc x) (pos y)) < n
+mag-cond true x y n p q = p
+mag-cond false x y n p q = q
+
+sum-mag : (a b : ℤ) → mag a < 2 ^ 32 → mag b < 2 ^ 32 → mag (a +ℤ b) < 2 ^ 34
+sum-mag (pos a) (pos b) p q = omega arith
+sum-mag (pos a) (negsuc b) p q = mag-cond (ltb a (suc b)) (suc b - suc a) (a - suc b) (2 ^ 34) (omega arith) (omega arith)
+sum-mag (negsuc a) (pos b) p q = mag-cond (ltb b (suc a)) (suc a - suc b) (b - suc a) (2 ^ 34) (omega arith) (omega arith)
+sum-mag (negsuc a) (negsuc b) p q = omega arith
+
+neg-mag : (a : ℤ) → mag a < 2 ^ 31 → mag (negℤ a) < 2 ^ 32
+neg-mag (pos zero) p = omega arith
+neg-mag (pos (suc a)) p = omega arith
+neg-mag (negsuc a) p = omega arith
+
+small-fits : {z : ℤ} → mag z < 2 ^ 34 → SFits w64 z
+small-fits p = record { sfits = omega arith }
+
+pub wide : {a : ℤ} → SFits w32 a → SFits w64 a
+wide p = sfits-widen tt p
+
+pub sum-fits : {a b : ℤ} → SFits w32 a → SFits w32 b → SFits w64 (a +ℤ b)
+sum-fits {a} {b} p q = small-fits (sum-mag a b (omega (arith, p .sfits)) (omega (arith, q .sfits)))
+
+pub difference-fits : {a b : ℤ} → SFits w32 a → SFits w32 b → SFits w64 (a -ℤ b)
+difference-fits {a} {b} p q = small-fits (sum-mag a (negℤ b) (omega (arith, p .sfits)) (neg-mag b (q .sfits)))
+
+-- ---- equality
+
+le-self : (z : ℤ) → leZ z z ≡ true
+le-self (pos n) = le-leb n n (le-refl n)
+le-self (negsuc n) = le-leb n n (le-refl n)
+
+le-both : (a b : ℤ) → (leZ a b && leZ b a) ≡ true → a ≡ b
+le-both (pos a) (pos b) e =
+    let p = both (leb a b) _ e in
+    ap pos (le-antisymm (leb-true a b (p .0)) (leb-true b a (p .1)))
+le-both (pos a) (negsuc b) e = absurd (false≢true e)
+le-both (negsuc a) (pos b) e = absurd (false≢true e)
+le-both (negsuc a) (negsuc b) e =
+    let p = both (leb b a) _ e in
+    ap negsuc (le-antisymm (leb-true a b (p .1)) (leb-true b a (p .0)))
+
+-- numbers of equal bits are equal
+pub equals-yes : {a b : ℤ} → SFits w32 a → SFits w32 b → ofZ w32 a ≡ ofZ w32 b → equals a b ≡ pos 1
+unfolding equals
+equals-yes {a} {b} p q e =
+    let same : a ≡ b = sym (toZ-ofZ p) ∙ ap (toZ w32) e ∙ toZ-ofZ q in
+    rw (same, le-self b)
+
+pub equals-no : (a b : ℤ) → (ofZ w32 a ≡ ofZ w32 b → ⊥) → equals a b ≡ pos 0
+unfolding equals
+equals-no a b d = go (leZ a b && leZ b a) refl
+  where
+    go : (y : Bool) → (leZ a b && leZ b a) ≡ y → from-bool y ≡ pos 0
+    go true e = absurd (d (ap (ofZ w32) (le-both a b e)))
+    go false e = refl
+
+-- ---- a number kept in a local
+
+pub kept : (w : Width) (z : ℤ) → mag z < 2 ^ hbits w → toZ w (ofZ w z) ≡ z
+kept w z h = toZ-ofZ {w = w} {z = z} (record { sfits = h })

@@ -1,0 +1,279 @@
+// Expressions: evaluated by recursion over node number and what is left of the budget.
+use machine::Value;
+use machine::Valued;
+ghost use mathlib.Core.Path.{_≡_};
+ghost use mathlib.Core.Bool.{true};
+ghost use Rattle.book.specs.Layout.{decode};
+ghost use Rattle.book.specs.Kinds.{expression, between};
+ghost use Rattle.book.specs.Refusals.{node-at};
+ghost use Rattle.monitor.specs.Call.{cells-of};
+ghost use Rattle.machine.specs.Ready.{Ready, Lengths, Node};
+ghost use Rattle.machine.specs.Store.{vars-of};
+ghost use Rattle.machine.specs.Promises.{Gives, Evaluates, Expresses};
+ghost use Rattle.expressions.specs.Values.{held-to-32, combine};
+
+// A final value: held to signed 32 bits, or stop 22 on its node.
+fn ranged(value: i64, n: usize) -> Value
+    ensures { λ r. ⌜ r ≡ held-to-32 value n ⌝ }
+{
+    if value < -2147483648 {
+        return Value::Stopped(22, n);
+    }
+    if 2147483647 < value {
+        return Value::Stopped(22, n);
+    }
+    Value::Known(value as i32)
+}
+
+// The exact value of 3 a+b, 4 a−b, 5 a equals b, 6 a less than b.
+fn combined(kind: u8, a: i32, b: i32) -> i64
+    ensures { λ r. ⌜ r ≡ combine kind a b ⌝ }
+{
+    match kind {
+        3 => a as i64 + b as i64,
+        4 => a as i64 - b as i64,
+        5 => if a == b { 1 } else { 0 },
+        _ => if a < b { 1 } else { 0 },
+    }
+}
+
+// Evaluates expression `n`: pays its cost, or stops with 21, and gives what its kind says.
+pub fn eval(
+    file: &[u8],
+    nodes: usize,
+    costs: &[u32; 27],
+    n: usize,
+    left: u32,
+    vars: &[i32; 16],
+    tags: &[u64; 128],
+    amounts: &[i32],
+    presence: &[u64],
+    labels: &[u64],
+) -> Valued
+    requires { ⌜ Ready (now file) nodes (now costs) × Node expression (now file) n ⌝ }
+    requires { ⌜ Lengths (now amounts) (now presence) (now labels) ⌝ }
+    ensures { λ r. ⌜ Gives (Evaluates (now (file .entry)) n) (cells-of (now (amounts .entry)) (now (presence .entry)) (now (labels .entry)))
+        (vars-of (now (vars .entry)) (now (tags .entry))) left r ⌝ }
+{
+    let at = nodes + 16 * n;
+    let kind = file[at];
+    let cost = costs[kind as usize];
+    if left < cost {
+        return Valued {
+            answer: Value::Stopped(21, n),
+            left,
+            label: [0u64; 8],
+        };
+    }
+    if kind == 1 {
+        return Valued {
+            answer: Value::Known(book::i32_at(file, at + 10)),
+            left: left - cost,
+            label: [0u64; 8],
+        };
+    }
+    if kind == 2 {
+        let p = book::byte_at(file, at + 1);
+        return Valued {
+            answer: Value::Known(vars[p]),
+            left: left - cost,
+            label: places::label_at(tags, p),
+        };
+    }
+    if kind < 7 {
+        return pair(
+            file,
+            nodes,
+            costs,
+            n,
+            left - cost,
+            vars,
+            tags,
+            amounts,
+            presence,
+            labels,
+        );
+    }
+    query(
+        file,
+        nodes,
+        costs,
+        n,
+        left - cost,
+        vars,
+        tags,
+        amounts,
+        presence,
+        labels,
+    )
+}
+
+// 3 to 6: two parts.
+fn pair(
+    file: &[u8],
+    nodes: usize,
+    costs: &[u32; 27],
+    n: usize,
+    left: u32,
+    vars: &[i32; 16],
+    tags: &[u64; 128],
+    amounts: &[i32],
+    presence: &[u64],
+    labels: &[u64],
+) -> Valued
+    requires { ⌜ Ready (now file) nodes (now costs) × Node expression (now file) n × (between 3 6 (node-at (decode (now file)) n .kind) ≡ true) ⌝ }
+    requires { ⌜ Lengths (now amounts) (now presence) (now labels) ⌝ }
+    ensures { λ r. ⌜ Gives (Expresses (now (file .entry)) n) (cells-of (now (amounts .entry)) (now (presence .entry)) (now (labels .entry)))
+        (vars-of (now (vars .entry)) (now (tags .entry))) left r ⌝ }
+{
+    let at = nodes + 16 * n;
+    let x = eval(
+        file,
+        nodes,
+        costs,
+        book::u16_at(file, at + 2),
+        left,
+        vars,
+        tags,
+        amounts,
+        presence,
+        labels,
+    );
+    let first = x.answer;
+    let Value::Known(a) = first else {
+        return x;
+    };
+    let y = eval(
+        file,
+        nodes,
+        costs,
+        book::u16_at(file, at + 4),
+        x.left,
+        vars,
+        tags,
+        amounts,
+        presence,
+        labels,
+    );
+    let second = y.answer;
+    let Value::Known(b) = second else {
+        return y;
+    };
+    let a_label = x.label;
+    let b_label = y.label;
+    Valued {
+        answer: ranged(combined(file[at], a, b), n),
+        left: y.left,
+        label: places::union(a_label, b_label),
+    }
+}
+
+// 8 to 11: four bounds, and the cells of a table in their box.
+fn query(
+    file: &[u8],
+    nodes: usize,
+    costs: &[u32; 27],
+    n: usize,
+    left: u32,
+    vars: &[i32; 16],
+    tags: &[u64; 128],
+    amounts: &[i32],
+    presence: &[u64],
+    labels: &[u64],
+) -> Valued
+    requires { ⌜ Ready (now file) nodes (now costs) × Node expression (now file) n × (between 8 11 (node-at (decode (now file)) n .kind) ≡ true) ⌝ }
+    requires { ⌜ Lengths (now amounts) (now presence) (now labels) ⌝ }
+    ensures { λ r. ⌜ Gives (Expresses (now (file .entry)) n) (cells-of (now (amounts .entry)) (now (presence .entry)) (now (labels .entry)))
+        (vars-of (now (vars .entry)) (now (tags .entry))) left r ⌝ }
+{
+    let at = nodes + 16 * n;
+    let w = eval(
+        file,
+        nodes,
+        costs,
+        book::u16_at(file, at + 2),
+        left,
+        vars,
+        tags,
+        amounts,
+        presence,
+        labels,
+    );
+    let first = w.answer;
+    let Value::Known(a) = first else {
+        return w;
+    };
+    let x = eval(
+        file,
+        nodes,
+        costs,
+        book::u16_at(file, at + 4),
+        w.left,
+        vars,
+        tags,
+        amounts,
+        presence,
+        labels,
+    );
+    let second = x.answer;
+    let Value::Known(b) = second else {
+        return x;
+    };
+    let y = eval(
+        file,
+        nodes,
+        costs,
+        book::u16_at(file, at + 6),
+        x.left,
+        vars,
+        tags,
+        amounts,
+        presence,
+        labels,
+    );
+    let third = y.answer;
+    let Value::Known(c) = third else {
+        return y;
+    };
+    let z = eval(
+        file,
+        nodes,
+        costs,
+        book::u16_at(file, at + 8),
+        y.left,
+        vars,
+        tags,
+        amounts,
+        presence,
+        labels,
+    );
+    let fourth = z.answer;
+    let Value::Known(d) = fourth else {
+        return z;
+    };
+    let a_label = w.label;
+    let b_label = x.label;
+    let c_label = y.label;
+    let d_label = z.label;
+    let bounds = places::union(
+        places::union(a_label, b_label),
+        places::union(c_label, d_label),
+    );
+    let found = queries::query(
+        file[at],
+        book::byte_at(file, at + 1),
+        a,
+        b,
+        c,
+        d,
+        amounts,
+        presence,
+        labels,
+    );
+    let seen = found.label;
+    Valued {
+        answer: ranged(found.value, n),
+        left: z.left,
+        label: places::union(bounds, seen),
+    }
+}

@@ -1,0 +1,115 @@
+// The run list: a book from standard input is run, and a line printed for each trace record and one for how the run ended.
+ghost use Prim.Native.Nat.{_+_, _≤_};
+ghost use lib.ListN.{length};
+
+// Prints a space and a number.
+fn print_number(number: u64) {
+    io::write_all(1, b" ");
+    io::print_decimal(1, number);
+}
+
+// Prints a space and the amount that these 32 bits are, two's complement.
+fn print_amount(bits: u32) {
+    if bits < 2147483648 {
+        print_number(bits as u64);
+        return;
+    }
+    io::write_all(1, b" -");
+    io::print_decimal(1, 4294967296 - bits as u64);
+}
+
+// Prints the line of a change of rights: what it does, the user and the region.
+fn print_change(what: &[u8], user: usize, region: usize) {
+    io::write_all(1, what);
+    print_number(user as u64);
+    print_number(region as u64);
+    io::write_all(1, b"\n");
+}
+
+// Prints the line of an out: the user and the amount, by its bits.
+fn print_out(user: usize, bits: u32) {
+    io::write_all(1, b"out");
+    print_number(user as u64);
+    print_amount(bits);
+    io::write_all(1, b"\n");
+}
+
+// Prints the line of the trace record at `at`.
+fn print_record(trace: &[u8], at: usize)
+    requires { ⌜ at + 8 ≤ length (now trace) ⌝ }
+{
+    let kind = book::byte_at(trace, at);
+    let user = book::byte_at(trace, at + 1);
+    let region = book::byte_at(trace, at + 2);
+    match kind {
+        1 => print_out(user, book::u32_at(trace, at + 4)),
+        2 => print_change(b"grant read", user, region),
+        3 => print_change(b"grant write", user, region),
+        4 => print_change(b"revoke read", user, region),
+        _ => print_change(b"revoke write", user, region),
+    }
+}
+
+// Prints the lines of the records in the first `bytes` bytes of the trace, which has as many.
+fn print_records(trace: &[u8], bytes: usize) {
+    if trace.len() < bytes {
+        return;
+    }
+    let mut at: usize = 0;
+    while 8 <= bytes - at {
+        print_record(trace, at);
+        at += 8;
+    }
+}
+
+// Prints the last line: how the run ended, and its numbers.
+fn print_end(answer: monitor::Answer) {
+    match answer {
+        monitor::Answer::Refused(number, index) => {
+            io::write_all(1, b"refused");
+            print_number(number as u64);
+            print_number(index as u64);
+        }
+        monitor::Answer::Stopped(number, node, cost, _) => {
+            io::write_all(1, b"stop");
+            print_number(number as u64);
+            print_number(node as u64);
+            print_number(cost as u64);
+        }
+        monitor::Answer::Finished(cost, _) => {
+            io::write_all(1, b"done");
+            print_number(cost as u64);
+        }
+    }
+    io::write_all(1, b"\n");
+}
+
+// How many bytes of the trace a run has written.
+fn bytes_of(answer: monitor::Answer) -> usize {
+    match answer {
+        monitor::Answer::Refused(_, _) => 0,
+        monitor::Answer::Stopped(_, _, _, bytes) => bytes,
+        monitor::Answer::Finished(_, bytes) => bytes,
+    }
+}
+
+// Reads a book, runs it with a budget of 100,000 and 4,096 trace bytes, and prints its lines. The longest book has 60,000 bytes;
+// one more is read, so that a longer input is refused and not cut.
+pub fn list() {
+    let mut file = [0u8; 60001];
+    let size = io::read_full(0, &mut file);
+    let mut amounts = [0i32; 512];
+    let mut presence = [0u64; 8];
+    let mut labels = [0u64; 4096];
+    let mut trace = [0u8; 4096];
+    let answer = runner::run(
+        &file[..size],
+        100000,
+        &mut amounts,
+        &mut presence,
+        &mut labels,
+        &mut trace,
+    );
+    print_records(&trace, bytes_of(answer));
+    print_end(answer);
+}

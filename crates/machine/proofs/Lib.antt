@@ -1,0 +1,7 @@
+pub mod Nodes
+pub mod Regions
+pub mod Runs
+pub mod Scripts
+pub mod Stores
+pub mod Traces
+pub mod WriteParts

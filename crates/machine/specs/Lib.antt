@@ -1,0 +1,4 @@
+pub mod Promises
+pub mod Ready
+pub mod Store
+pub mod Writes

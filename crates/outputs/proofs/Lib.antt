@@ -1,0 +1,4 @@
+pub mod Changes
+pub mod Outs
+pub mod Records
+pub mod Rows

@@ -1,0 +1,5 @@
+pub mod Tallies
+pub mod Passed
+pub mod Boxes
+pub mod Clipped
+pub mod Sweeps

@@ -1,0 +1,18 @@
+-- What a query finds among the cells it sees.
+use mathlib.Core.List.{List}
+use Prim.Native.Nat.{ℕ, _*_}
+use lib.IntN.{ℤ}
+use Rattle.monitor.specs.Labelled.{Lab}
+use Rattle.monitor.specs.Run.{Cell}
+use Rattle.monitor.specs.Rules.{Box, in-box, gather, aggregate}
+use Rattle.queries.specs.declared.Found.{Found}
+
+-- owners first to last, lines low to high
+abbrev pub box : ℤ → ℤ → ℤ → ℤ → Box
+box first last low high = record { from = record { owner = first; line = low }; to = record { owner = last; line = high } }
+
+-- the value of a query of this kind over the cells of a table that lie in the box, with the labels of all of them
+unfoldable pub found-in : ℕ → (ℕ → Lab Cell) → Box → ℕ → Found
+found-in kind cells x table =
+    let seen : Lab (List Cell) = gather cells (in-box x) (64 * table) 64 in
+    record { value = aggregate kind (seen .val); label = seen .lab }

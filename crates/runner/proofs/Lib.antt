@@ -1,0 +1,4 @@
+pub mod Sequence
+pub mod Results
+pub mod Calls
+pub mod Claims

@@ -1,0 +1,51 @@
+// Triggers: whether one fits a write, and the variables with which it runs.
+use machine::Variables;
+ghost use mathlib.Core.Path.{_≡_};
+ghost use Prim.Native.Nat.{_<_};
+ghost use Rattle.book.specs.Layout.{count};
+ghost use Rattle.book.specs.Refusals.{verdict};
+ghost use Rattle.book.specs.declared.Verdict.the-variants.{Accepted};
+ghost use Rattle.monitor.specs.Rules.{fitting, trigger-at, trigger-vars};
+ghost use Rattle.machine.specs.Ready.{script-of};
+ghost use Rattle.machine.specs.Store.{vars-of, cell};
+ghost use Rattle.machine.specs.Writes.{key-of};
+
+// Whether trigger `t` fits the write of the cell at `place`: its event, and its region holds the place.
+pub fn fits(file: &[u8], t: usize, event: u8, place: usize) -> bool
+    requires { ⌜ (verdict (now file) ≡ Accepted) × (t < count (now file) 5) × (place < 512) ⌝ }
+    ensures { λ r. ⌜ r ≡ fitting (script-of (now (file .entry))) event place (trigger-at (script-of (now (file .entry))) t) ⌝ }
+{
+    let at = book::section_at(file, 5).start + 8 * t;
+    if file[at + 1] != event {
+        return false;
+    }
+    let region = machine::region_places(file, book::byte_at(file, at));
+    places::contains(region, place)
+}
+
+// A trigger's variables: owner and line with the context as label, the amount with its own label added, and 0 for the others.
+pub fn variables(
+    ctx: &[u64; 8],
+    owner: i32,
+    line: i32,
+    event: u8,
+    amount: i32,
+    label: &[u64; 8],
+) -> Variables
+    ensures { λ r. ⌜ vars-of (r .values) (r .tags) ≡ trigger-vars (now (ctx .entry)) (key-of owner line) (record { val = cell event amount; lab = now (label .entry) }) ⌝ }
+{
+    let mut values = [0i32; 16];
+    values[0] = owner;
+    values[1] = line;
+    values[2] = amount;
+    let context = *ctx;
+    let added = *label;
+    let mut tags = [0u64; 128];
+    let mut p: usize = 0;
+    while p < 16 {
+        places::set_label(&mut tags, p, context);
+        p += 1;
+    }
+    places::set_label(&mut tags, 2, places::union(context, added));
+    Variables { values, tags }
+}

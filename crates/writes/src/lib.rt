@@ -1,0 +1,208 @@
+// Commands that write: assignment and raise, and the write of one cell.
+use machine::Posted;
+use machine::Ran;
+use machine::Value;
+ghost use mathlib.Core.Path.{_≡_};
+ghost use mathlib.Core.Bool.{cond, true};
+ghost use Prim.Native.Nat.{_+_, _*_, _≤_, _<_};
+ghost use Rattle.book.specs.Layout.{decode};
+ghost use Rattle.book.specs.Kinds.{command};
+ghost use Rattle.book.specs.Refusals.{node-at};
+ghost use lib.Dec.{eqb};
+ghost use lib.ListN.{length};
+ghost use lib.Bits.{bitOr, bitAnd, bitXor};
+ghost use Rattle.monitor.specs.Run.{update};
+ghost use Rattle.monitor.specs.Rules.{key-place, in-table};
+ghost use Rattle.monitor.specs.Call.{cells-of};
+ghost use Rattle.machine.specs.Ready.{Ready, Lengths, Node};
+ghost use Rattle.machine.specs.Store.{vars-of, cell};
+ghost use Rattle.machine.specs.Promises.{Assigns, Raises};
+ghost use Rattle.machine.specs.Writes.{key-of, Posts};
+
+// Whether a key is one of a table's.
+fn is_key(owner: i32, line: i32) -> bool
+    ensures { λ r. ⌜ r ≡ in-table (key-of owner line) ⌝ }
+{
+    if owner < 0 {
+        return false;
+    }
+    if 7 < owner {
+        return false;
+    }
+    if line < 0 {
+        return false;
+    }
+    if 7 < line {
+        return false;
+    }
+    true
+}
+
+// The place of a key in a table.
+fn place_of(table: usize, owner: i32, line: i32) -> usize
+    requires { ⌜ (table < 8) × (in-table (key-of owner line) ≡ true) ⌝ }
+    ensures { λ r. ⌜ (r ≡ key-place table (key-of owner line)) × (r < 512) ⌝ }
+{
+    64 * table + 8 * (owner as usize) + (line as usize)
+}
+
+// A presence word in which a bit is set by put (event 1) or taken out by clear.
+fn marked(event: u8, word: u64, bit: u64) -> u64
+    ensures { λ r. ⌜ r ≡ cond (eqb event 1) (bitOr word bit) (bitXor word (bitAnd word bit)) ⌝ }
+{
+    if event == 1 {
+        return word | bit;
+    }
+    word ^ (word & bit)
+}
+
+// The cell at `place` becomes an amount, or absent, with a label.
+fn store_cell(
+    amounts: &mut [i32],
+    presence: &mut [u64],
+    labels: &mut [u64],
+    place: usize,
+    event: u8,
+    amount: i32,
+    label: [u64; 8],
+)
+    requires { ⌜ (place < 512) × Lengths (now amounts) (now presence) (now labels) ⌝ }
+    ensures { λ _. ⌜ cells-of (now (amounts .exit)) (now (presence .exit)) (now (labels .exit))
+        ≡ update (cells-of (now (amounts .entry)) (now (presence .entry)) (now (labels .entry))) place (record { val = cell event amount; lab = label }) ⌝ }
+{
+    amounts[place] = amount;
+    let word = place / 64;
+    let one = places::single(place);
+    let next = marked(event, presence[word], one[word]);
+    presence[word] = next;
+    places::set_label(labels, place, label);
+}
+
+// Variable `p` becomes an amount with a label.
+fn store_variable(vars: &mut [i32], tags: &mut [u64], p: usize, amount: i32, label: [u64; 8])
+    requires { ⌜ (p < length (now vars)) × (8 * p + 8 ≤ length (now tags)) ⌝ }
+    ensures { λ _. ⌜ vars-of (now (vars .exit)) (now (tags .exit))
+        ≡ update (vars-of (now (vars .entry)) (now (tags .entry))) p (record { val = amount; lab = label }) ⌝ }
+{
+    vars[p] = amount;
+    places::set_label(tags, p, label);
+}
+
+// 17: variable p becomes a. Stop 25 where the context is not within the variable's old label.
+pub fn assign(
+    file: &[u8],
+    nodes: usize,
+    costs: &[u32; 27],
+    n: usize,
+    left: u32,
+    ctx: &[u64; 8],
+    vars: &mut [i32; 16],
+    tags: &mut [u64; 128],
+    amounts: &[i32],
+    presence: &[u64],
+    labels: &[u64],
+    used: usize,
+) -> Ran
+    requires { ⌜ Ready (now file) nodes (now costs) × Node command (now file) n × (node-at (decode (now file)) n .kind ≡ 17) ⌝ }
+    requires { ⌜ Lengths (now amounts) (now presence) (now labels) ⌝ }
+    ensures { λ r. ⌜ Assigns (now (file .entry)) (now (ctx .entry)) n left used (now (amounts .entry)) (now (presence .entry)) (now (labels .entry))
+        (vars-of (now (vars .entry)) (now (tags .entry))) r (vars-of (now (vars .exit)) (now (tags .exit))) ⌝ }
+{
+    let at = nodes + 16 * n;
+    let value = expressions::eval(
+        file,
+        nodes,
+        costs,
+        book::u16_at(file, at + 2),
+        left,
+        vars,
+        tags,
+        amounts,
+        presence,
+        labels,
+    );
+    let answer = value.answer;
+    let Value::Known(amount) = answer else {
+        return machine::failed(answer, value.left, used);
+    };
+    let label = value.label;
+    let p = book::byte_at(file, at + 1);
+    let context = *ctx;
+    let old = places::label_at(tags, p);
+    let fine = places::within(context, old);
+    if !fine {
+        return machine::stopped(25, n, value.left, used);
+    }
+    store_variable(vars, tags, p, amount, places::union(context, label));
+    machine::finished(value.left, used)
+}
+
+// 26: variable p is raised by region a, under the same test.
+pub fn raise(
+    file: &[u8],
+    nodes: usize,
+    costs: &[u32; 27],
+    n: usize,
+    left: u32,
+    ctx: &[u64; 8],
+    vars: &[i32; 16],
+    tags: &mut [u64; 128],
+    used: usize,
+) -> Ran
+    requires { ⌜ Ready (now file) nodes (now costs) × Node command (now file) n × (node-at (decode (now file)) n .kind ≡ 26) ⌝ }
+    ensures { λ r. ⌜ Raises (now (file .entry)) (now (ctx .entry)) n left used
+        (vars-of (now (vars .entry)) (now (tags .entry))) r (vars-of (now (vars .entry)) (now (tags .exit))) ⌝ }
+{
+    let at = nodes + 16 * n;
+    let p = book::byte_at(file, at + 1);
+    let context = *ctx;
+    let old = places::label_at(tags, p);
+    let inside = places::within(context, old);
+    if !inside {
+        return machine::stopped(25, n, left, used);
+    }
+    let region = machine::region_places(file, book::u16_at(file, at + 2));
+    places::set_label(tags, p, places::union(old, region));
+    machine::finished(left, used)
+}
+
+// The write of a cell by put (event 1) or clear (event 2), up to the triggers: tests 23, 24 and 26 come before it.
+// `ctx` is context plus key label.
+pub fn post(
+    n: usize,
+    ctx: &[u64; 8],
+    user: usize,
+    table: usize,
+    owner: i32,
+    line: i32,
+    event: u8,
+    amount: i32,
+    label: &[u64; 8],
+    write: &[[u64; 8]; 8],
+    amounts: &mut [i32],
+    presence: &mut [u64],
+    labels: &mut [u64],
+) -> Posted
+    requires { ⌜ (user < 8) × (table < 8) × Lengths (now amounts) (now presence) (now labels) ⌝ }
+    ensures { λ r. ⌜ Posts n (now (ctx .entry)) user table (key-of owner line) (record { val = cell event amount; lab = now (label .entry) }) (now (write .entry))
+        (cells-of (now (amounts .entry)) (now (presence .entry)) (now (labels .entry))) r (cells-of (now (amounts .exit)) (now (presence .exit)) (now (labels .exit))) ⌝ }
+{
+    let keyed = is_key(owner, line);
+    if !keyed {
+        return Posted::Stopped(23, n);
+    }
+    let place = place_of(table, owner, line);
+    let may = places::contains(write[user], place);
+    if !may {
+        return Posted::Stopped(24, n);
+    }
+    let context = *ctx;
+    let fine = places::within(context, places::label_at(labels, place));
+    if !fine {
+        return Posted::Stopped(26, n);
+    }
+    let added = *label;
+    let new = places::union(context, added);
+    store_cell(amounts, presence, labels, place, event, amount, new);
+    Posted::At(place)
+}

@@ -1,0 +1,232 @@
+//! One case: a random file with random limits, put to both implementations.
+
+use crate::proved::{self, Loaded, Ran, Written};
+use reference::book::Refusal;
+use reference::generate;
+use reference::random::Random;
+use reference::run::{self, Answer, Memory, Tests};
+use reference::writer;
+
+/// Memory for one case after another, for each of the two.
+pub struct Lent {
+    expected: Memory,
+    found: Memory,
+    expected_out: Vec<u8>,
+    found_out: Vec<u8>,
+}
+
+impl Lent {
+    pub fn new() -> Lent {
+        Lent {
+            expected: Memory::new(0),
+            found: Memory::new(0),
+            expected_out: Vec::new(),
+            found_out: Vec::new(),
+        }
+    }
+
+    /// Draws the case of a seed and compares load, run and write. Gives how the
+    /// run ended, or what differs.
+    pub fn check(&mut self, seed: u64) -> Result<Ran, String> {
+        let mut random = Random::new(seed);
+        let file = file(&mut random);
+        self.check_load(&mut random, &file)?;
+        let ran = self.check_run(&mut random, &file)?;
+        self.check_write(&mut random, &file)?;
+        Ok(ran)
+    }
+
+    fn check_run(&mut self, random: &mut Random, file: &[u8]) -> Result<Ran, String> {
+        let budget = budget(random);
+        let trace = trace_length(random);
+        self.soil(random, trace);
+        let expected = ran(run::run(file, budget, &mut self.expected, Tests::Labelled));
+        let found = proved::run(
+            file,
+            budget,
+            &mut self.found.amounts,
+            &mut self.found.presence,
+            &mut self.found.labels,
+            &mut self.found.trace,
+        );
+        same("run: answer", &expected, &found)?;
+        self.compare("run")?;
+        Ok(found)
+    }
+
+    fn check_load(&mut self, random: &mut Random, file: &[u8]) -> Result<(), String> {
+        self.soil(random, 0);
+        let expected = match run::load(file, &mut self.expected) {
+            Ok(_) => Loaded { number: 0, at: 0 },
+            Err(Refusal { number, index }) => Loaded { number, at: index },
+        };
+        let found = proved::load(
+            file,
+            &mut self.found.amounts,
+            &mut self.found.presence,
+            &mut self.found.labels,
+        );
+        same("load: answer", &expected, &found)?;
+        self.compare("load")
+    }
+
+    /// Writes the cells that the run has left, or random ones.
+    fn check_write(&mut self, random: &mut Random, file: &[u8]) -> Result<(), String> {
+        if random.chance(50) {
+            self.soil(random, 0);
+        }
+        let length = random.weighted(&[(95, 60_000), (3, 60_009), (1, 59_999), (1, 0)]);
+        let junk = random.word() as u8;
+        for out in [&mut self.expected_out, &mut self.found_out] {
+            out.clear();
+            out.resize(length, junk);
+        }
+        let Memory {
+            amounts, presence, ..
+        } = &self.expected;
+        let expected = written(writer::write(
+            file,
+            amounts,
+            presence,
+            &mut self.expected_out,
+        ));
+        let found = proved::write(file, amounts, presence, &mut self.found_out);
+        same("write: answer", &expected, &found)?;
+        same_items("write: output", &self.expected_out, &self.found_out)
+    }
+
+    /// Fills both memories with the same junk, at most one of whose lengths is
+    /// not as it should be.
+    fn soil(&mut self, random: &mut Random, trace: usize) {
+        let off = random.weighted(&[(97, [0; 3]), (1, [1, 0, 0]), (1, [0, 1, 0]), (1, [0, 0, 1])]);
+        let [amounts, presence, labels] = if random.chance(50) {
+            [512 - off[0], 8 - off[1], 4_096 - off[2]]
+        } else {
+            [512 + off[0], 8 + off[1], 4_096 + off[2]]
+        };
+        let memory = &mut self.expected;
+        memory.amounts.clear();
+        memory
+            .amounts
+            .extend((0..amounts).map(|_| random.word() as i32));
+        memory.presence.clear();
+        memory.presence.extend((0..presence).map(|_| random.word()));
+        let junk = random.word();
+        memory.labels.clear();
+        memory.labels.resize(labels, junk);
+        memory.trace.clear();
+        memory.trace.resize(trace, junk as u8);
+        self.found.amounts.clone_from(&memory.amounts);
+        self.found.presence.clone_from(&memory.presence);
+        self.found.labels.clone_from(&memory.labels);
+        self.found.trace.clone_from(&memory.trace);
+    }
+
+    fn compare(&self, call: &str) -> Result<(), String> {
+        let (expected, found) = (&self.expected, &self.found);
+        same_items(
+            &format!("{call}: amounts"),
+            &expected.amounts,
+            &found.amounts,
+        )?;
+        same_items(
+            &format!("{call}: presence"),
+            &expected.presence,
+            &found.presence,
+        )?;
+        same_items(&format!("{call}: labels"), &expected.labels, &found.labels)?;
+        same_items(&format!("{call}: trace"), &expected.trace, &found.trace)
+    }
+}
+
+/// A book's file, of which one in four is damaged.
+fn file(random: &mut Random) -> Vec<u8> {
+    let book = generate::book(random);
+    if random.chance(25) {
+        return generate::damaged(random, &book);
+    }
+    book.encode()
+}
+
+/// Ample for most books; sometimes so little that the run stops for it, and
+/// sometimes more than there may be.
+fn budget(random: &mut Random) -> u32 {
+    match random.below(1_000) {
+        0..=99 => random.below(60) as u32,
+        100..=199 => random.below(400) as u32,
+        200..=979 => 2_500,
+        980..=995 => random.below(30_000) as u32,
+        996 => random.below(1_000_001) as u32,
+        997 => 1_000_000,
+        998 => 1_000_001,
+        _ => random.word() as u32,
+    }
+}
+
+/// In the same way.
+fn trace_length(random: &mut Random) -> usize {
+    match random.below(1_000) {
+        0..=99 => random.below(50),
+        100..=979 => random.between(200, 2_000),
+        980..=993 => random.below(65_537),
+        994..=996 => 65_536,
+        _ => 65_537,
+    }
+}
+
+fn ran(answer: Answer) -> Ran {
+    match answer {
+        Answer::Refused(Refusal { number, index }) => Ran {
+            number,
+            at: index,
+            cost: 0,
+            bytes: 0,
+        },
+        Answer::Ended {
+            number,
+            node,
+            cost,
+            bytes,
+        } => Ran {
+            number,
+            at: node,
+            cost,
+            bytes,
+        },
+    }
+}
+
+fn written(answer: writer::Written) -> Written {
+    match answer {
+        writer::Written::Refused(Refusal { number, index }) => Written {
+            number,
+            at: index,
+            length: 0,
+        },
+        writer::Written::Length(length) => Written {
+            number: 0,
+            at: 0,
+            length,
+        },
+    }
+}
+
+fn same<T: std::fmt::Debug + PartialEq>(what: &str, expected: &T, found: &T) -> Result<(), String> {
+    if expected == found {
+        return Ok(());
+    }
+    Err(format!("{what}: expected {expected:?}, found {found:?}"))
+}
+
+fn same_items<T: std::fmt::Debug + PartialEq>(
+    what: &str,
+    expected: &[T],
+    found: &[T],
+) -> Result<(), String> {
+    if expected == found {
+        return Ok(());
+    }
+    let at = (0..expected.len()).find(|&at| expected[at] != found[at]);
+    let at = at.expect("both are as long, and differ");
+    same(&format!("{what}[{at}]"), &expected[at], &found[at])
+}

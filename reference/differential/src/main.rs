@@ -1,0 +1,98 @@
+//! Puts random books, accepted and damaged, to the proved implementation and to
+//! the reference, and compares all that they answer and leave in memory.
+
+mod case;
+mod proved;
+
+use case::Lent;
+use proved::Ran;
+use std::collections::BTreeMap;
+use std::env;
+use std::process::ExitCode;
+use std::sync::atomic::{AtomicBool, Ordering};
+use std::thread;
+
+const USAGE: &str = "usage: differential [CASES [SEED]]
+  CASES  how many cases (default 1000000)
+  SEED   the first case's seed (default 0); the next case has the next seed";
+
+/// For the deepest books, in the reference.
+const STACK: usize = 256 << 20;
+
+/// How many runs ended with each number: 0 finished, 1 to 10 refused, 21 to 30
+/// stopped.
+type Ends = BTreeMap<u32, u64>;
+
+fn main() -> ExitCode {
+    let arguments: Vec<String> = env::args().skip(1).collect();
+    let numbers: Option<Vec<u64>> = arguments.iter().map(|word| word.parse().ok()).collect();
+    let (cases, seed) = match numbers.as_deref() {
+        Some([]) => (1_000_000, 0),
+        Some(&[cases]) => (cases, 0),
+        Some(&[cases, seed]) => (cases, seed),
+        _ => {
+            eprintln!("{USAGE}");
+            return ExitCode::from(2);
+        }
+    };
+    match compare(cases, seed) {
+        Some(ends) => {
+            println!("{cases} cases from seed {seed} on: no difference");
+            for (number, count) in ends {
+                println!("  {count} runs ended with {number}");
+            }
+            ExitCode::SUCCESS
+        }
+        None => ExitCode::FAILURE,
+    }
+}
+
+/// Compares cases, and gives how their runs ended; or says on standard error
+/// which seed differs, and how.
+fn compare(cases: u64, seed: u64) -> Option<Ends> {
+    let threads = thread::available_parallelism().map_or(1, |count| count.get()) as u64;
+    let failed = AtomicBool::new(false);
+    let parts: Vec<Ends> = thread::scope(|scope| {
+        let started: Vec<_> = (0..threads)
+            .map(|first| {
+                let seeds = (first..cases).step_by(threads as usize);
+                let seeds = seeds.map(move |case| seed.wrapping_add(case));
+                thread::Builder::new()
+                    .stack_size(STACK)
+                    .spawn_scoped(scope, || compare_all(seeds, &failed))
+                    .expect("the system starts a thread")
+            })
+            .collect();
+        started
+            .into_iter()
+            .map(|thread| thread.join().expect("a thread ends without a panic"))
+            .collect()
+    });
+    if failed.load(Ordering::Relaxed) {
+        return None;
+    }
+    let mut ends = Ends::new();
+    for (number, count) in parts.into_iter().flatten() {
+        *ends.entry(number).or_default() += count;
+    }
+    Some(ends)
+}
+
+/// Compares the cases of these seeds until one differs, here or elsewhere.
+fn compare_all(seeds: impl Iterator<Item = u64>, failed: &AtomicBool) -> Ends {
+    let mut lent = Lent::new();
+    let mut ends = Ends::new();
+    for seed in seeds {
+        if failed.load(Ordering::Relaxed) {
+            break;
+        }
+        match lent.check(seed) {
+            Ok(Ran { number, .. }) => *ends.entry(number).or_default() += 1,
+            Err(difference) => {
+                eprintln!("seed {seed}: {difference}");
+                failed.store(true, Ordering::Relaxed);
+            }
+        }
+    }
+    ends
+}

@@ -1,0 +1,119 @@
+//! Cases for runners of books, and what each comes to, so that another
+//! implementation can be compared.
+//!
+//! The cases stand in a stream one after another. A case is a header of 20
+//! bytes and the file. The header is little-endian: the file's length, the
+//! budget and the length of the lent trace (32 bits each), the lengths of the
+//! lent amounts, presence and labels (16 bits each), and the seed (16 bits).
+
+mod deep;
+mod files;
+mod firing;
+mod lent;
+mod limits;
+mod office;
+mod outcome;
+mod sample;
+mod scripts;
+mod stops;
+mod sweeps;
+mod values;
+
+pub use outcome::Outcome;
+
+/// Lengths of lent memory.
+#[derive(Clone, Copy, Debug, PartialEq, Eq)]
+pub struct Lent {
+    pub amounts: u16,
+    pub presence: u16,
+    pub labels: u16,
+    pub trace: u32,
+}
+
+impl Lent {
+    /// Lengths that a run accepts, with this much trace.
+    pub const fn with_trace(trace: u32) -> Lent {
+        Lent {
+            amounts: 512,
+            presence: 8,
+            labels: 4_096,
+            trace,
+        }
+    }
+}
+
+/// A file to run.
+#[derive(Clone, Debug, PartialEq, Eq)]
+pub struct Case {
+    pub file: Vec<u8>,
+    pub budget: u32,
+    pub lent: Lent,
+    /// What all that is lent is drawn from, so that whatever is left alone
+    /// shows.
+    pub seed: u16,
+}
+
+impl Case {
+    /// A file with more budget and trace than a short script needs.
+    fn ample(file: Vec<u8>) -> Case {
+        Case {
+            file,
+            budget: 2_000,
+            lent: Lent::with_trace(200),
+            seed: 0,
+        }
+    }
+
+    fn with_budget(self, budget: u32) -> Case {
+        Case { budget, ..self }
+    }
+
+    fn with_trace(self, trace: u32) -> Case {
+        let lent = Lent::with_trace(trace);
+        Case { lent, ..self }
+    }
+}
+
+/// All cases, the same at every call. Each has its number as its seed.
+pub fn all() -> Vec<Case> {
+    let mut cases = [
+        lent::cases(),
+        files::cases(),
+        limits::cases(),
+        values::cases(),
+        stops::cases(),
+        sweeps::cases(),
+        firing::cases(),
+        sample::cases(),
+        deep::cases(),
+    ]
+    .concat();
+    for (number, case) in cases.iter_mut().enumerate() {
+        case.seed = number as u16;
+    }
+    cases
+}
+
+/// The stream of these cases.
+pub fn stream(cases: &[Case]) -> Vec<u8> {
+    let mut bytes = Vec::new();
+    for case in cases {
+        let lent = case.lent;
+        for field in [case.file.len() as u32, case.budget, lent.trace] {
+            bytes.extend(field.to_le_bytes());
+        }
+        for field in [lent.amounts, lent.presence, lent.labels, case.seed] {
+            bytes.extend(field.to_le_bytes());
+        }
+        bytes.extend(&case.file);
+    }
+    bytes
+}
+
+/// What each case comes to, one line a case. Some cases need a deep stack.
+pub fn answers(cases: &[Case]) -> String {
+    cases
+        .iter()
+        .map(|case| format!("{}\n", Outcome::of(case)))
+        .collect()
+}
