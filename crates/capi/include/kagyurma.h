@@ -27,15 +27,9 @@ struct kagyurma_ran {
     uint32_t bytes;
 };
 
-/* Whether a book was loaded. number: 0 if it was, or the refusal, 1 to 10. at: the index of the first bad record. */
-struct kagyurma_loaded {
-    uint32_t number;
-    uint32_t at;
-};
-
-/* Whether a book was written. number: 0 if it was, or the refusal, 1 to 10. at: the index of the first bad record. length: how
- * many bytes of the output the book has. */
-struct kagyurma_written {
+/* How loading or writing ended. number: 0 if it was done, or the refusal, 1 to 10. at: the index of the first bad record.
+ * length: how many bytes of the output the written book has; 0 for a load and for a refusal. */
+struct kagyurma_answered {
     uint32_t number;
     uint32_t at;
     uint32_t length;
@@ -52,17 +46,17 @@ struct kagyurma_ran kagyurma_run(const uint8_t *file, size_t file_len, uint32_t 
 
 /* Sets lent memory to the start state of the book in `file`: its cells, and for each place the label that holds this place
  * alone. */
-struct kagyurma_loaded kagyurma_load(const uint8_t *file, size_t file_len,
-                                     int32_t *amounts, size_t amounts_len,
-                                     uint64_t *presence, size_t presence_len,
-                                     uint64_t *labels, size_t labels_len);
+struct kagyurma_answered kagyurma_load(const uint8_t *file, size_t file_len,
+                                       int32_t *amounts, size_t amounts_len,
+                                       uint64_t *presence, size_t presence_len,
+                                       uint64_t *labels, size_t labels_len);
 
 /* Writes the book in `file`, with the present cells of lent memory for its own, to the start of `out`, which has at least 60000
  * bytes. The bytes of `out` after the book stay as they were. */
-struct kagyurma_written kagyurma_write(const uint8_t *file, size_t file_len,
-                                       const int32_t *amounts, size_t amounts_len,
-                                       const uint64_t *presence, size_t presence_len,
-                                       uint8_t *out, size_t out_len);
+struct kagyurma_answered kagyurma_write(const uint8_t *file, size_t file_len,
+                                        const int32_t *amounts, size_t amounts_len,
+                                        const uint64_t *presence, size_t presence_len,
+                                        uint8_t *out, size_t out_len);
 
 #ifdef __cplusplus
 }

@@ -17,11 +17,11 @@ module _ (file : List ℕ) (amounts : List ℤ) (presence labels : List ℕ) whe
 
   module _ (v : Verdict) (a : List ℤ) (p l : List ℕ)
       (e : record { answer = v; amounts = a; presence = p; labels = l } ≡ loader.load-call file amounts presence labels) where
-    pub load-accepted : v ≡ Accepted → record { answer = record { number = 0; at = 0 }; amounts = a; presence = p; labels = l } ≡ load-call file amounts presence labels
+    pub load-accepted : v ≡ Accepted → record { answer = record { number = 0; at = 0; length = 0 }; amounts = a; presence = p; labels = l } ≡ load-call file amounts presence labels
     unfolding load-call load-numbers loaded
     load-accepted q = rw q at (ap load-numbers e)
 
     pub load-refused : (number index : ℕ) → v ≡ Refused number index
-        → record { answer = record { number = number; at = index }; amounts = a; presence = p; labels = l } ≡ load-call file amounts presence labels
+        → record { answer = record { number = number; at = index; length = 0 }; amounts = a; presence = p; labels = l } ≡ load-call file amounts presence labels
     unfolding load-call load-numbers loaded
     load-refused number index q = rw q at (ap load-numbers e)

@@ -7,8 +7,7 @@ use Rattle.book.specs.declared.Verdict.{Verdict}
 use Rattle.monitor.specs.Call.{Memory, Result, values, call}
 use Rattle.monitor.specs.declared.Answer.{Answer}
 use Rattle.capi.specs.declared.Ran.{Ran}
-use Rattle.capi.specs.declared.Loaded.{Loaded}
-use Rattle.capi.specs.declared.Written.{Written}
+use Rattle.capi.specs.declared.Answered.{Answered}
 use Rattle.book.specs.declared.Verdict.the-variants as verdicts
 use Rattle.loader.specs.Load as loader
 use Rattle.writer.specs.Write as writer
@@ -35,12 +34,13 @@ run-call file budget m = run-numbers (call true file budget m)
 
 -- ---- loading
 
-unfoldable pub loaded : Verdict → Loaded
-loaded verdicts.Accepted = record { number = 0; at = 0 }
-loaded (verdicts.Refused number index) = record { number = number; at = index }
+-- nothing is written, so that the length is 0
+unfoldable pub loaded : Verdict → Answered
+loaded verdicts.Accepted = record { number = 0; at = 0; length = 0 }
+loaded (verdicts.Refused number index) = record { number = number; at = index; length = 0 }
 
 pub record LoadCall : Type 0 where
-  pub answer : Loaded
+  pub answer : Answered
   pub amounts : List ℤ
   pub presence : List ℕ
   pub labels : List ℕ
@@ -54,12 +54,12 @@ load-call file amounts presence labels = load-numbers (loader.load-call file amo
 
 -- ---- writing
 
-unfoldable pub written : answers.Written → Written
+unfoldable pub written : answers.Written → Answered
 written (writtens.Refused number index) = record { number = number; at = index; length = 0 }
 written (writtens.Wrote length) = record { number = 0; at = 0; length = length }
 
 pub record WriteCall : Type 0 where
-  pub answer : Written
+  pub answer : Answered
   pub out : List ℕ
 
 -- a call of the writer, with its answer in numbers

@@ -12,16 +12,9 @@ pub struct Ran {
     pub bytes: u32,
 }
 
-// Whether a book was loaded: the refusal's number, 0 if there was none, and its index.
+// How loading or writing ended: the refusal's number, 0 if there was none, and its index; the length written, 0 for a load.
 #[repr(C)]
-pub struct Loaded {
-    pub number: u32,
-    pub at: u32,
-}
-
-// Whether a book was written: the refusal's number, 0 if there was none, and its index; the length written.
-#[repr(C)]
-pub struct Written {
+pub struct Answered {
     pub number: u32,
     pub at: u32,
     pub length: u32,
@@ -69,15 +62,20 @@ pub extern "C" fn kagyurma_load(
     amounts: &mut [i32],
     presence: &mut [u64],
     labels: &mut [u64],
-) -> Loaded
+) -> Answered
     ensures { λ r. ⌜ record { answer = r; amounts = now (amounts .exit); presence = now (presence .exit); labels = now (labels .exit) }
         ≡ load-call (now (file .entry)) (now (amounts .entry)) (now (presence .entry)) (now (labels .entry)) ⌝ }
 {
     match loader::load(file, amounts, presence, labels) {
-        book::Verdict::Accepted => Loaded { number: 0, at: 0 },
-        book::Verdict::Refused(number, index) => Loaded {
+        book::Verdict::Accepted => Answered {
+            number: 0,
+            at: 0,
+            length: 0,
+        },
+        book::Verdict::Refused(number, index) => Answered {
             number,
             at: index as u32,
+            length: 0,
         },
     }
 }
@@ -89,16 +87,16 @@ pub extern "C" fn kagyurma_write(
     amounts: &[i32],
     presence: &[u64],
     out: &mut [u8],
-) -> Written
+) -> Answered
     ensures { λ r. ⌜ record { answer = r; out = now (out .exit) } ≡ write-call (now (file .entry)) (now (amounts .entry)) (now (presence .entry)) (now (out .entry)) ⌝ }
 {
     match writer::write(file, amounts, presence, out) {
-        writer::Written::Refused(number, index) => Written {
+        writer::Written::Refused(number, index) => Answered {
             number,
             at: index as u32,
             length: 0,
         },
-        writer::Written::Wrote(length) => Written {
+        writer::Written::Wrote(length) => Answered {
             number: 0,
             at: 0,
             length: length as u32,

@@ -1,34 +1,25 @@
 -- The triggers that a write fires, by number. Assumes nothing.
-use mathlib.Core.Path.{_≡_, refl, sym, ap, _∙_}
+use mathlib.Core.Path.{_≡_, sym, ap, _∙_}
 use mathlib.Core.List.{List, []}
 use mathlib.Core.Bool.{Bool, true, false}
 use Prim.Native.Nat.{ℕ, suc, _+_, _-_, _≤_, _<_}
 use native.Mathlib.Numerals.{add-one}
 use native.Mathlib.Omega.{arith}
-use lib.IntN.{ℤ, pos}
+use lib.IntN.{ℤ}
 use lib.ListN.{length}
 use Rattle.book.specs.Layout.{count}
 use Rattle.book.proofs.Decoded.{count-triggers}
-use Rattle.monitor.specs.Labelled.{Label, bottom, Lab, lit}
-use Rattle.monitor.specs.Run.{Cell, State, Out, done, M, next, _>>_, each, when, own, restore}
+use Rattle.monitor.specs.Labelled.{Label, bottom, Lab}
+use Rattle.monitor.specs.Run.{Cell, State, Out, done, M, next, _>>_, each, when, own}
 use Rattle.monitor.specs.Rules.{Key, trigger-vars, numbers, trigger-at, fitting, trigger-run, fire, exec}
 use Rattle.monitor.specs.Call.{script}
 use Rattle.machine.specs.Ready.{script-of}
 use Rattle.machine.specs.Store.{Store, state, cell}
 use Rattle.machine.specs.Promises.{ran, ended, Does, DoesAside, env, Enters}
 use Rattle.machine.specs.Writes.{key-of, Fires}
-use Rattle.machine.specs.declared.Outcome.{Outcome}
 use Rattle.machine.specs.declared.Outcome.the-variants.{Done, Stopped}
 use Rattle.machine.specs.declared.Ran.{Ran}
-use Rattle.machine.proofs.Runs.{after-none, does-as, quietly, then-stops, then-goes}
-
--- whatever the variables are
-pub aside : {m : ℕ → M (Unit {0})} {x x' : Store} {left used : ℕ} {r : Ran}
-    → ((vars : ℕ → Lab ℤ) → Does m vars x left used r vars x') → DoesAside m x left used r x'
-aside {m} {x} {x'} {left} {used} {r} f =
-    let zeros : ℕ → Lab ℤ = λ p. lit (pos 0) in
-    let d : Does m zeros x left used r zeros x' = f zeros in
-    record { does = f; fits = d .fits; within = d .within }
+use Rattle.machine.proofs.Runs.{after-none, does-as, quietly, then-stops, then-goes, aside, own-does}
 
 -- the same key and the same cell
 pub fires-as : (file : List ℕ) (ctx : Label) (t event place : ℕ) (label : Label)
@@ -39,25 +30,6 @@ pub fires-as : (file : List ℕ) (ctx : Label) (t event place : ℕ) (label : La
 fires-as file ctx t event place label eo el ea d = aside λ vars.
     does-as (λ fuel i. Fires file ctx t event place (key-of (sym eo i) (sym el i)) (record { val = cell event (sym ea i); lab = label }) fuel)
     (d .does vars)
-
--- a run with variables of its own
-own-does : {own-vars own-vars' vars : ℕ → Lab ℤ} {x x' : Store} {left used : ℕ} {r : Ran} {m : ℕ → M (Unit {0})}
-    → Does m own-vars x left used r own-vars' x' → Does (λ fuel. own own-vars (m fuel)) vars x left used r vars x'
-unfolding own restore ended
-own-does {own-vars' = own-vars'} {vars = vars} {x' = x'} {r = r} d = record {
-  records = d .records;
-  obstacle = d .obstacle;
-  is = λ fuel h. ap (restore vars) (d .is fuel h) ∙ back (r .outcome);
-  trace-is = d .trace-is;
-  used-is = d .used-is;
-  fits = d .fits;
-  within = d .within;
-}
-  where
-    back : (o : Outcome) → restore vars (ended o (d .obstacle) (d .records) (state own-vars' x' (r .left) (r .used)))
-        ≡ ended o (d .obstacle) (d .records) (state vars x' (r .left) (r .used))
-    back Done = refl
-    back (Stopped number node) = refl
 
 script-triggers : (file : List ℕ) → length (script-of file .triggers) ≡ count file 5
 unfolding script

@@ -28,7 +28,8 @@ use Rattle.machine.proofs.Nodes.{script-node}
 use Rattle.queries.specs.declared.Found.{Found}
 use Rattle.queries.specs.Found.{box, found-in}
 use Rattle.expressions.specs.Values.{held-to-32, combine}
-use Rattle.expressions.proofs.Steps.{valued, after-none, gives-as, stops-at, goes-on, ranged-gives}
+use Rattle.machine.proofs.Runs.{after-none}
+use Rattle.expressions.proofs.Steps.{valued, gives-as, stops-at, goes-on, ranged-gives}
 
 -- the rest of a pair after its parts, and after its first part
 abbrev combining : NodeRecord → ℕ → Lab ℤ → Lab ℤ → M (Lab ℤ)

@@ -18,6 +18,7 @@ use Rattle.machine.specs.Promises.{Gives, given}
 use Rattle.machine.specs.declared.Value.{Value}
 use Rattle.machine.specs.declared.Value.the-variants.{Known, Stopped}
 use Rattle.machine.specs.declared.Valued.{Valued}
+use Rattle.machine.proofs.Runs.{after-none, next-known}
 use Rattle.expressions.specs.Values.{held-to-32}
 
 abbrev pub valued : Value → ℕ → Label → Valued
@@ -28,18 +29,9 @@ standing cells vars left rights room = record { cells = cells; vars = vars; righ
 
 -- ---- single steps
 
-pub after-none : {A : Type 0} (o : Out A) → after [] o ≡ o
-unfolding after
-after-none (done u a s) = refl
-after-none (stop u h s) = refl
-
 next-stopped : (v : Value) (number node : ℕ) (l : Label) (s : State) (k : Lab ℤ → M (Lab ℤ)) → v ≡ Stopped number node → next (given v l s) k ≡ given v l s
 unfolding next given
 next-stopped v number node l s k e = rw e
-
-next-known : (v : Value) (z : ℤ) (l : Label) (s : State) (k : Lab ℤ → M (Lab ℤ)) → v ≡ Known z → next (given v l s) k ≡ k (record { val = z; lab = l }) s
-unfolding next given
-next-known v z l s k e = rw e (after-none (k (record { val = z; lab = l }) s))
 
 pay-passes : (cost n : ℕ) (s : State) → cost ≤ s .left → pay cost n s ≡ done [] tt (spend cost s)
 unfolding pay guard
@@ -83,7 +75,7 @@ module _ {cells : ℕ → Lab Cell} {vars : ℕ → Lab ℤ} where
       → Gives (λ fuel. m fuel >>= k fuel) cells vars left r
   goes-on k {x = x} z g e rest = record {
     is = λ fuel h rights room. ap (λ (o : Out (Lab ℤ)). next o (k fuel)) (g .is fuel h rights room)
-        ∙ next-known (x .answer) z (x .label) _ (k fuel) e
+        ∙ next-known (x .answer) (x .label) _ (k fuel) z e
         ∙ rest .is fuel (le-trans (g .within) h) rights room;
     within = le-trans (rest .within) (g .within);
   }

@@ -8,7 +8,6 @@ use native.Mathlib.Nat.{mul-comm}
 use native.Mathlib.Decide.{decLt, ℕ-discrete}
 use native.Mathlib.Omega.{arith}
 use lib.Dec.{eqb, leb, ltb, lit<}
-use lib.IntN.{ℤ}
 use lib.ListN.{length, getD}
 use borrow.Author.Tests.{eqb-true, leb-true, ltb-true, lt-leb, ne-eqb, not-false}
 use Rattle.book.specs.Bytes.{byte, le16, le32, signed32}
@@ -19,11 +18,11 @@ use Rattle.book.specs.Refusals.{node-at, sorted, field-fits, node-fits, verdict
 use Rattle.book.specs.Start.{tabulate}
 use Rattle.book.specs.declared.Verdict.the-variants.{Accepted}
 use Rattle.book.proofs.Chains.{both}
-use Rattle.book.proofs.Decoded.{count-nodes, count-regions, node-read}
+use Rattle.book.proofs.Decoded.{count-regions, node-read}
 use Rattle.book.proofs.Accepted.{placed, nodes-inside, accepted}
 use Rattle.book.proofs.Tabulate.{tabulate-at}
 use Rattle.monitor.specs.Call.{script}
-use Rattle.machine.specs.Ready.{script-of, Ready, Node}
+use Rattle.machine.specs.Ready.{script-of, Node}
 
 -- the rules' node is the file's
 pub script-node : (file : List ℕ) (n : ℕ) → node-at (script-of file) n ≡ node-at (decode file) n

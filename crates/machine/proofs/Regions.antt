@@ -1,5 +1,5 @@
 -- The places of a region, from its record in the file. Assumes nothing.
-use mathlib.Core.Path.{_≡_, ap, _∙_}
+use mathlib.Core.Path.{_≡_}
 use mathlib.Core.List.{List}
 use Prim.Native.Nat.{ℕ, _+_, _*_, _≤_, _<_}
 use native.Mathlib.Nat.{mul-comm}
@@ -7,7 +7,7 @@ use native.Mathlib.Omega.{arith}
 use lib.ListN.{length}
 use Rattle.places.specs.Regions.{region-set}
 use Rattle.places.specs.declared.Region.{Region}
-use Rattle.book.specs.Records.{RegionRecord, region-of, regions-format}
+use Rattle.book.specs.Records.{region-of, regions-format}
 use Rattle.book.specs.Layout.{count, section}
 use Rattle.book.specs.Refusals.{no-region, verdict}
 use Rattle.book.specs.declared.Section.{Section}

@@ -4,13 +4,13 @@ use mathlib.Core.List.{List, [], _++_}
 use mathlib.Core.Bool.{true, false}
 use Prim.Native.Nat.{ℕ, _+_, _*_, _≤_}
 use native.Mathlib.Omega.{arith}
-use lib.IntN.{ℤ}
+use lib.IntN.{ℤ, pos}
 use lib.ListN.{length, length-append}
-use Rattle.monitor.specs.Labelled.{Label, bottom, Lab}
-use Rattle.monitor.specs.Run.{State, Rec, Out, done, stop, M, after, next, _>>=_, _>>_, ret, look, Test, guard, need}
+use Rattle.monitor.specs.Labelled.{Label, bottom, Lab, lit}
+use Rattle.monitor.specs.Run.{State, Rec, Out, done, stop, M, after, next, _>>=_, _>>_, ret, look, Test, guard, need, sixteen, restore, own}
 use Rattle.monitor.specs.Call.{cells-of}
 use Rattle.machine.specs.Store.{Store, state, with-records}
-use Rattle.machine.specs.Promises.{given, Gives, ran, stop-of, ended, Does}
+use Rattle.machine.specs.Promises.{given, Gives, ran, stop-of, ended, Does, DoesAside}
 use Rattle.machine.specs.declared.Value.{Value}
 use Rattle.machine.specs.declared.Value.the-variants as value
 use Rattle.machine.specs.declared.Valued.{Valued}
@@ -41,7 +41,7 @@ next-stopped : (o : Outcome) (obstacle : Label) (records : List Rec) (s : State)
 unfolding next ended
 next-stopped o obstacle records s k number node e = rw e
 
-pub next-known : (v : Value) (label : Label) (s : State) (k : Lab ℤ → M (Unit {0})) (z : ℤ)
+pub next-known : {A : Type 0} (v : Value) (label : Label) (s : State) (k : Lab ℤ → M A) (z : ℤ)
     → v ≡ value.Known z → next (given v label s) k ≡ k (record { val = z; lab = label }) s
 unfolding next given
 next-known v label s k z e = rw e (after-none (k (record { val = z; lab = label }) s))
@@ -175,3 +175,29 @@ module _ {vars : ℕ → Lab ℤ} {x : Store} {left used : ℕ} where
       fits = w .fits;
       within = omega (arith, d .within, w .within);
     }
+
+-- ---- runs that leave the variables
+
+-- what a run does whatever the variables are
+pub aside : {m : ℕ → M (Unit {0})} {x x' : Store} {left used : ℕ} {r : Ran}
+    → ((vars : ℕ → Lab ℤ) → Does m vars x left used r vars x') → DoesAside m x left used r x'
+aside d = record { does = d; fits = d (sixteen (lit (pos 0))) .fits; within = d (sixteen (lit (pos 0))) .within }
+
+-- a run with variables of its own: those of the caller come back
+pub own-does : {m : ℕ → M (Unit {0})} {own-vars own-vars' vars : ℕ → Lab ℤ} {x x' : Store} {left used : ℕ} {r : Ran}
+    → Does m own-vars x left used r own-vars' x' → Does (λ fuel. own own-vars (m fuel)) vars x left used r vars x'
+unfolding own restore ended
+own-does {own-vars' = own-vars'} {vars = vars} {x' = x'} {r = r} d = record {
+  records = d .records;
+  obstacle = d .obstacle;
+  is = λ fuel h. ap (restore vars) (d .is fuel h) ∙ back (r .outcome);
+  trace-is = d .trace-is;
+  used-is = d .used-is;
+  fits = d .fits;
+  within = d .within;
+}
+  where
+    back : (o : Outcome) → restore vars (ended o (d .obstacle) (d .records) (state own-vars' x' (r .left) (r .used)))
+        ≡ ended o (d .obstacle) (d .records) (state vars x' (r .left) (r .used))
+    back Done = refl
+    back (Stopped number node) = refl

@@ -12,7 +12,7 @@ use Rattle.monitor.specs.Run.{Cell, Rights, State, Rec, Out, done, stop, M}
 use Rattle.monitor.specs.Syntax.{exp-of, cmd-of}
 use Rattle.monitor.specs.Rules.{Env, expr, eval, command, exec}
 use Rattle.machine.specs.Ready.{script-of}
-use Rattle.machine.specs.Store.{Store, store, state, room-in, with-records}
+use Rattle.machine.specs.Store.{Store, store, state, with-records}
 use Rattle.machine.specs.declared.Value.{Value}
 use Rattle.machine.specs.declared.Value.the-variants as value
 use Rattle.machine.specs.declared.Valued.{Valued}

@@ -6,7 +6,7 @@ use Prim.Native.Nat.{ℕ, _<_}
 use lib.IntN.{ℤ}
 use Rattle.places.specs.Sets.{has}
 use Rattle.monitor.specs.Labelled.{Label, Lab, under}
-use Rattle.monitor.specs.Run.{Cell, State, M, _>>=_, _>>_, look, plainly, need, set-cell}
+use Rattle.monitor.specs.Run.{Cell, M, _>>=_, _>>_, look, plainly, need, set-cell}
 use Rattle.monitor.specs.Rules.{Key, key-place, in-table, fire, exec}
 use Rattle.monitor.specs.Call.{rows}
 use Rattle.machine.specs.Ready.{script-of}

@@ -14,22 +14,16 @@ use Rattle.book.specs.Layout.{count, decode}
 use Rattle.book.specs.Refusals.{no-program}
 use Rattle.book.proofs.Decoded.{count-programs}
 use Rattle.monitor.specs.Labelled.{bottom, Lab, lit}
-use Rattle.monitor.specs.Run.{M, _>>_, each, sixteen, restore, own}
+use Rattle.monitor.specs.Run.{_>>_, each, sixteen, own}
 use Rattle.monitor.specs.Rules.{program}
 use Rattle.monitor.specs.Call.{script}
 use Rattle.machine.specs.Ready.{Lent}
-use Rattle.machine.specs.Store.{vars-of, Store, state}
+use Rattle.machine.specs.Store.{vars-of, Store}
 use Rattle.machine.specs.Promises.{ran, ended, Does, DoesAside, Enters}
-use Rattle.machine.specs.declared.Outcome.{Outcome}
 use Rattle.machine.specs.declared.Outcome.the-variants.{Done, Stopped}
 use Rattle.machine.specs.declared.Ran.{Ran}
-use Rattle.machine.proofs.Runs.{does-as, quietly, then-stops, then-goes}
+use Rattle.machine.proofs.Runs.{does-as, quietly, then-stops, then-goes, aside, own-does}
 use Rattle.runner.specs.Programs.{Program, Programs}
-
--- what a run does whatever the variables are
-aside : {m : ℕ → M (Unit {0})} {x x' : Store} {left used : ℕ} {r : Ran}
-    → ((vars : ℕ → Lab ℤ) → Does m vars x left used r vars x') → DoesAside m x left used r x'
-aside d = record { does = d; fits = d (sixteen (lit (pos 0))) .fits; within = d (sixteen (lit (pos 0))) .within }
 
 -- ---- one program
 
@@ -60,37 +54,13 @@ fresh-vars = fun-ext (λ p. go p (decLt p 16))
         let past : 128 ≤ 8 * p = omega arith in
         rw (le-ltb p 16 h, List·getD-eq-default (replicate 16 (pos 0)) (pos 0) h, drop-of-length-le (zeros 128) past)
 
--- whatever the caller's variables are, they come back
-pub own-does : {m : ℕ → M (Unit {0})} {own-vars own-vars' : ℕ → Lab ℤ} {x x' : Store} {left used : ℕ} {r : Ran}
-    → Does m own-vars x left used r own-vars' x' → DoesAside (λ fuel. own own-vars (m fuel)) x left used r x'
-unfolding own restore ended
-own-does {own-vars' = own-vars'} {x' = x'} {r = r} d = record {
-  does = λ vars. record {
-    records = d .records;
-    obstacle = d .obstacle;
-    is = λ fuel h. ap (restore vars) (d .is fuel h) ∙ back vars (r .outcome);
-    trace-is = d .trace-is;
-    used-is = d .used-is;
-    fits = d .fits;
-    within = d .within;
-  };
-  fits = d .fits;
-  within = d .within;
-}
-  where
-    back : (vars : ℕ → Lab ℤ) (o : Outcome)
-        → restore vars (ended o (d .obstacle) (d .records) (state own-vars' x' (r .left) (r .used)))
-        ≡ ended o (d .obstacle) (d .records) (state vars x' (r .left) (r .used))
-    back vars Done = refl
-    back vars (Stopped number node) = refl
-
 -- the command at the root of program i, with the program's user, is the program
 pub program-does : (file : List ℕ) (i user root : ℕ) {vars vars' : ℕ → Lab ℤ} {x x' : Store} {left used : ℕ} {r : Ran}
     → user ≡ getD (decode file .programs) i no-program .user → root ≡ getD (decode file .programs) i no-program .root → vars ≡ sixteen (lit (pos 0))
     → Does (Enters file bottom user 0 root) vars x left used r vars' x' → DoesAside (Program file i) x left used r x'
 unfolding program script
 program-does file i user root u e v d =
-    aside (λ vars. does-as (λ fuel j. own (sym v j) (Enters file bottom (sym u j) 0 (sym e j) fuel)) (own-does d .does vars))
+    aside (λ vars. does-as (λ fuel j. own (sym v j) (Enters file bottom (sym u j) 0 (sym e j) fuel)) (own-does d))
 
 -- ---- the programs from number i on
 

@@ -1,6 +1,6 @@
 //! One case: a random file with random limits, put to both implementations.
 
-use crate::proved::{self, Loaded, Ran, Written};
+use crate::proved::{self, Answered, Ran};
 use reference::book::Refusal;
 use reference::generate;
 use reference::random::Random;
@@ -57,8 +57,8 @@ impl Lent {
     fn check_load(&mut self, random: &mut Random, file: &[u8]) -> Result<(), String> {
         self.soil(random, 0);
         let expected = match run::load(file, &mut self.expected) {
-            Ok(_) => Loaded { number: 0, at: 0 },
-            Err(Refusal { number, index }) => Loaded { number, at: index },
+            Ok(_) => answered(0, 0, 0),
+            Err(Refusal { number, index }) => answered(number, index, 0),
         };
         let found = proved::load(
             file,
@@ -196,18 +196,14 @@ fn ran(answer: Answer) -> Ran {
     }
 }
 
-fn written(answer: writer::Written) -> Written {
+fn answered(number: u32, at: u32, length: u32) -> Answered {
+    Answered { number, at, length }
+}
+
+fn written(answer: writer::Written) -> Answered {
     match answer {
-        writer::Written::Refused(Refusal { number, index }) => Written {
-            number,
-            at: index,
-            length: 0,
-        },
-        writer::Written::Length(length) => Written {
-            number: 0,
-            at: 0,
-            length,
-        },
+        writer::Written::Refused(Refusal { number, index }) => answered(number, index, 0),
+        writer::Written::Length(length) => answered(0, 0, length),
     }
 }
 

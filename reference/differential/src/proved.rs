@@ -11,18 +11,10 @@ pub struct Ran {
     pub bytes: u32,
 }
 
-/// Whether a book was loaded.
+/// How loading or writing ended.
 #[repr(C)]
 #[derive(Clone, Copy, Debug, PartialEq, Eq)]
-pub struct Loaded {
-    pub number: u32,
-    pub at: u32,
-}
-
-/// Whether a book was written.
-#[repr(C)]
-#[derive(Clone, Copy, Debug, PartialEq, Eq)]
-pub struct Written {
+pub struct Answered {
     pub number: u32,
     pub at: u32,
     pub length: u32,
@@ -51,7 +43,7 @@ extern "C" {
         presence_len: usize,
         labels: *mut u64,
         labels_len: usize,
-    ) -> Loaded;
+    ) -> Answered;
     fn kagyurma_write(
         file: *const u8,
         file_len: usize,
@@ -61,7 +53,7 @@ extern "C" {
         presence_len: usize,
         out: *mut u8,
         out_len: usize,
-    ) -> Written;
+    ) -> Answered;
 }
 
 pub fn run(
@@ -91,7 +83,12 @@ pub fn run(
     }
 }
 
-pub fn load(file: &[u8], amounts: &mut [i32], presence: &mut [u64], labels: &mut [u64]) -> Loaded {
+pub fn load(
+    file: &[u8],
+    amounts: &mut [i32],
+    presence: &mut [u64],
+    labels: &mut [u64],
+) -> Answered {
     // SAFETY: as for `run`.
     unsafe {
         kagyurma_load(
@@ -107,7 +104,7 @@ pub fn load(file: &[u8], amounts: &mut [i32], presence: &mut [u64], labels: &mut
     }
 }
 
-pub fn write(file: &[u8], amounts: &[i32], presence: &[u64], out: &mut [u8]) -> Written {
+pub fn write(file: &[u8], amounts: &[i32], presence: &[u64], out: &mut [u8]) -> Answered {
     // SAFETY: as for `run`.
     unsafe {
         kagyurma_write(
