@@ -1,7 +1,6 @@
 -- The needs of `branch`.
-use borrow.Author.Needs.{needs}
 use native.Mathlib.Omega.{arith}
-use mathlib.Core.Path.{_≡_, ap, _∙_}
+use mathlib.Core.Path.{_≡_, refl, ap, _∙_}
 use Prim.Native.Nat.{ℕ}
 use mir.Syntax.{w32}
 use mir.Facts.{toZ-ofZ}
@@ -63,22 +62,22 @@ branch-eval-requires t c κs =
     )
 
 pub branch-enum-known-answer : (t : ℕ) → branch-lts.Need-enum-known-answer (branch-cs t) (branch-at t) branch.Post
-branch-enum-known-answer t c = search needs
+branch-enum-known-answer t c = c .match .keys1
 
 pub branch-enum-told : (t : ℕ) → branch-lts.Need-enum-told (branch-cs t) (branch-at t) branch.Post
-branch-enum-told t c = search needs
+branch-enum-told t c = c .match .keys2
 
 pub branch-failed-requires : (t : ℕ) → branch-lts.Need-failed-requires (branch-cs t) (branch-at t) branch.Post
-branch-failed-requires t c κs = search needs
+branch-failed-requires t c κs = tt
 
 pub branch-same-length : (t : ℕ) → branch-lts.Need-same-length (branch-cs t) (branch-at t) branch.Post
-branch-same-length t c = search needs
+branch-same-length t c = refl
 
 pub branch-same-length-2 : (t : ℕ) → branch-lts.Need-same-length-2 (branch-cs t) (branch-at t) branch.Post
-branch-same-length-2 t c = search needs
+branch-same-length-2 t c = refl
 
 pub branch-same-length-3 : (t : ℕ) → branch-lts.Need-same-length-3 (branch-cs t) (branch-at t) branch.Post
-branch-same-length-3 t c = search needs
+branch-same-length-3 t c = refl
 
 pub branch-returns : (t : ℕ) → branch-lts.Need-returns (branch-cs t) (branch-at t) branch.Post
 branch-returns t c =
@@ -94,10 +93,10 @@ branch-returns t c =
     (after-enum-told .enum-told .given .1) (c .failed .ensures) (lent .room)
 
 pub branch-union-requires : (t : ℕ) → branch-lts.Need-union-requires (branch-cs t) (branch-at t) branch.Post
-branch-union-requires t c κs = search needs
+branch-union-requires t c κs = tt
 
 pub branch-chosen-requires : (t : ℕ) → branch-lts.Need-chosen-requires (branch-cs t) (branch-at t) branch.Post
-branch-chosen-requires t c κs = search needs
+branch-chosen-requires t c κs = tt
 
 pub branch-add-u16-at-2 : (t : ℕ) → branch-lts.Need-add-u16-at-2 (branch-cs t) (branch-at t) branch.Post
 branch-add-u16-at-2 t c =
@@ -152,16 +151,16 @@ branch-exec-requires t c κs =
     )
 
 pub branch-same-length-4 : (t : ℕ) → branch-lts.Need-same-length-4 (branch-cs t) (branch-at t) branch.Post
-branch-same-length-4 t c = search needs
+branch-same-length-4 t c = c .before .before .before .before .before .before .before .exec .kept .1 .1 .1 .1 .1 .1 .1 .1 .1 .1 .1 .1 .1 .0
 
 pub branch-same-length-5 : (t : ℕ) → branch-lts.Need-same-length-5 (branch-cs t) (branch-at t) branch.Post
-branch-same-length-5 t c = search needs
+branch-same-length-5 t c = c .before .before .before .before .before .before .before .exec .kept .1 .1 .1 .1 .1 .1 .1 .1 .1 .1 .1 .1 .1 .1 .0
 
 pub branch-same-length-6 : (t : ℕ) → branch-lts.Need-same-length-6 (branch-cs t) (branch-at t) branch.Post
-branch-same-length-6 t c = search needs
+branch-same-length-6 t c = c .before .before .before .before .before .before .before .exec .kept .1 .1 .1 .1 .1 .1 .1 .1 .1 .1 .1 .1 .1 .1 .1 .0
 
 pub branch-same-length-7 : (t : ℕ) → branch-lts.Need-same-length-7 (branch-cs t) (branch-at t) branch.Post
-branch-same-length-7 t c = search needs
+branch-same-length-7 t c = c .before .before .before .before .before .before .before .exec .kept .1 .1 .1 .1 .1 .1 .1 .1 .1 .1 .1 .1 .1 .1 .1 .1 .0
 
 pub branch-returns-2 : (t : ℕ) → branch-lts.Need-returns-2 (branch-cs t) (branch-at t) branch.Post
 branch-returns-2 t c =

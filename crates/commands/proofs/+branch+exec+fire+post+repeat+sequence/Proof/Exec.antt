@@ -1,7 +1,6 @@
 -- The needs of `exec`.
-use borrow.Author.Needs.{needs}
 use native.Mathlib.Omega.{arith}
-use mathlib.Core.Path.{sym, ap, _∙_}
+use mathlib.Core.Path.{refl, sym, ap, _∙_}
 use Prim.Native.Nat.{ℕ}
 use Rattle.book.specs.Layout.{decode}
 use Rattle.book.specs.Kinds.{between}
@@ -68,7 +67,7 @@ exec-element-copy-out-cost t c =
     omega (arith, node .kind, kind-below (a .file .now) (lent .ready .accepted) (a .n) (mine .0 .inside))
 
 pub exec-stopped-requires : (t : ℕ) → exec-lts.Need-stopped-requires (exec-cs t) (exec-at t) exec.Post
-exec-stopped-requires t c κs = search needs
+exec-stopped-requires t c κs = tt
 
 pub exec-returns : (t : ℕ) → exec-lts.Need-returns (exec-cs t) (exec-at t) exec.Post
 exec-returns t c =
@@ -197,16 +196,16 @@ exec-raise-requires t c κs =
     (lent .ready, mine .0, (sym (node .kind) ∙ after-match .match .keys10))
 
 pub exec-finished-requires : (t : ℕ) → exec-lts.Need-finished-requires (exec-cs t) (exec-at t) exec.Post
-exec-finished-requires t c κs = search needs
+exec-finished-requires t c κs = tt
 
 pub exec-same-length : (t : ℕ) → exec-lts.Need-same-length (exec-cs t) (exec-at t) exec.Post
-exec-same-length t c = search needs
+exec-same-length t c = refl
 
 pub exec-same-length-2 : (t : ℕ) → exec-lts.Need-same-length-2 (exec-cs t) (exec-at t) exec.Post
-exec-same-length-2 t c = search needs
+exec-same-length-2 t c = refl
 
 pub exec-same-length-3 : (t : ℕ) → exec-lts.Need-same-length-3 (exec-cs t) (exec-at t) exec.Post
-exec-same-length-3 t c = search needs
+exec-same-length-3 t c = refl
 
 pub exec-returns-2 : (t : ℕ) → exec-lts.Need-returns-2 (exec-cs t) (exec-at t) exec.Post
 exec-returns-2 t c =
@@ -221,16 +220,16 @@ exec-returns-2 t c =
     (c .assign .ensures .does (a .user) (a .above) (a .read .now) (a .write .now) (a .trace .now) (lent .room))
 
 pub exec-same-length-4 : (t : ℕ) → exec-lts.Need-same-length-4 (exec-cs t) (exec-at t) exec.Post
-exec-same-length-4 t c = search needs
+exec-same-length-4 t c = c .before .before .before .before .before .before .before .sequence .kept .1 .1 .1 .1 .1 .1 .1 .1 .1 .1 .1 .1 .1 .0
 
 pub exec-same-length-5 : (t : ℕ) → exec-lts.Need-same-length-5 (exec-cs t) (exec-at t) exec.Post
-exec-same-length-5 t c = search needs
+exec-same-length-5 t c = c .before .before .before .before .before .before .before .sequence .kept .1 .1 .1 .1 .1 .1 .1 .1 .1 .1 .1 .1 .1 .1 .0
 
 pub exec-same-length-6 : (t : ℕ) → exec-lts.Need-same-length-6 (exec-cs t) (exec-at t) exec.Post
-exec-same-length-6 t c = search needs
+exec-same-length-6 t c = c .before .before .before .before .before .before .before .sequence .kept .1 .1 .1 .1 .1 .1 .1 .1 .1 .1 .1 .1 .1 .1 .1 .0
 
 pub exec-same-length-7 : (t : ℕ) → exec-lts.Need-same-length-7 (exec-cs t) (exec-at t) exec.Post
-exec-same-length-7 t c = search needs
+exec-same-length-7 t c = c .before .before .before .before .before .before .before .sequence .kept .1 .1 .1 .1 .1 .1 .1 .1 .1 .1 .1 .1 .1 .1 .1 .1 .0
 
 pub exec-returns-3 : (t : ℕ) → exec-lts.Need-returns-3 (exec-cs t) (exec-at t) exec.Post
 exec-returns-3 t c =
@@ -245,16 +244,16 @@ exec-returns-3 t c =
     enters (a .file .now) (a .ctx .now) (a .user) (a .above) (a .n) price (omega (arith, after-if1 .if1 .left)) (after-sequence .sequence .ensures)
 
 pub exec-same-length-8 : (t : ℕ) → exec-lts.Need-same-length-8 (exec-cs t) (exec-at t) exec.Post
-exec-same-length-8 t c = search needs
+exec-same-length-8 t c = c .before .before .before .before .before .before .before .branch .kept .1 .1 .1 .1 .1 .1 .1 .1 .1 .1 .1 .1 .1 .0
 
 pub exec-same-length-9 : (t : ℕ) → exec-lts.Need-same-length-9 (exec-cs t) (exec-at t) exec.Post
-exec-same-length-9 t c = search needs
+exec-same-length-9 t c = c .before .before .before .before .before .before .before .branch .kept .1 .1 .1 .1 .1 .1 .1 .1 .1 .1 .1 .1 .1 .1 .0
 
 pub exec-same-length-10 : (t : ℕ) → exec-lts.Need-same-length-10 (exec-cs t) (exec-at t) exec.Post
-exec-same-length-10 t c = search needs
+exec-same-length-10 t c = c .before .before .before .before .before .before .before .branch .kept .1 .1 .1 .1 .1 .1 .1 .1 .1 .1 .1 .1 .1 .1 .1 .0
 
 pub exec-same-length-11 : (t : ℕ) → exec-lts.Need-same-length-11 (exec-cs t) (exec-at t) exec.Post
-exec-same-length-11 t c = search needs
+exec-same-length-11 t c = c .before .before .before .before .before .before .before .branch .kept .1 .1 .1 .1 .1 .1 .1 .1 .1 .1 .1 .1 .1 .1 .1 .1 .0
 
 pub exec-returns-4 : (t : ℕ) → exec-lts.Need-returns-4 (exec-cs t) (exec-at t) exec.Post
 exec-returns-4 t c =
@@ -269,16 +268,16 @@ exec-returns-4 t c =
     enters (a .file .now) (a .ctx .now) (a .user) (a .above) (a .n) price (omega (arith, after-if1 .if1 .left)) (after-branch .branch .ensures)
 
 pub exec-same-length-12 : (t : ℕ) → exec-lts.Need-same-length-12 (exec-cs t) (exec-at t) exec.Post
-exec-same-length-12 t c = search needs
+exec-same-length-12 t c = c .before .before .before .before .before .before .before .repeat .kept .1 .1 .1 .1 .1 .1 .1 .1 .1 .1 .1 .1 .1 .0
 
 pub exec-same-length-13 : (t : ℕ) → exec-lts.Need-same-length-13 (exec-cs t) (exec-at t) exec.Post
-exec-same-length-13 t c = search needs
+exec-same-length-13 t c = c .before .before .before .before .before .before .before .repeat .kept .1 .1 .1 .1 .1 .1 .1 .1 .1 .1 .1 .1 .1 .1 .0
 
 pub exec-same-length-14 : (t : ℕ) → exec-lts.Need-same-length-14 (exec-cs t) (exec-at t) exec.Post
-exec-same-length-14 t c = search needs
+exec-same-length-14 t c = c .before .before .before .before .before .before .before .repeat .kept .1 .1 .1 .1 .1 .1 .1 .1 .1 .1 .1 .1 .1 .1 .1 .0
 
 pub exec-same-length-15 : (t : ℕ) → exec-lts.Need-same-length-15 (exec-cs t) (exec-at t) exec.Post
-exec-same-length-15 t c = search needs
+exec-same-length-15 t c = c .before .before .before .before .before .before .before .repeat .kept .1 .1 .1 .1 .1 .1 .1 .1 .1 .1 .1 .1 .1 .1 .1 .1 .0
 
 pub exec-returns-5 : (t : ℕ) → exec-lts.Need-returns-5 (exec-cs t) (exec-at t) exec.Post
 exec-returns-5 t c =
@@ -293,16 +292,16 @@ exec-returns-5 t c =
     enters (a .file .now) (a .ctx .now) (a .user) (a .above) (a .n) price (omega (arith, after-if1 .if1 .left)) (after-repeat .repeat .ensures)
 
 pub exec-same-length-16 : (t : ℕ) → exec-lts.Need-same-length-16 (exec-cs t) (exec-at t) exec.Post
-exec-same-length-16 t c = search needs
+exec-same-length-16 t c = c .before .before .before .before .before .before .before .post .kept .1 .1 .1 .1 .1 .1 .1 .1 .1 .1 .1 .1 .1 .1 .0
 
 pub exec-same-length-17 : (t : ℕ) → exec-lts.Need-same-length-17 (exec-cs t) (exec-at t) exec.Post
-exec-same-length-17 t c = search needs
+exec-same-length-17 t c = c .before .before .before .before .before .before .before .post .kept .1 .1 .1 .1 .1 .1 .1 .1 .1 .1 .1 .1 .1 .1 .1 .0
 
 pub exec-same-length-18 : (t : ℕ) → exec-lts.Need-same-length-18 (exec-cs t) (exec-at t) exec.Post
-exec-same-length-18 t c = search needs
+exec-same-length-18 t c = c .before .before .before .before .before .before .before .post .kept .1 .1 .1 .1 .1 .1 .1 .1 .1 .1 .1 .1 .1 .1 .1 .1 .0
 
 pub exec-same-length-19 : (t : ℕ) → exec-lts.Need-same-length-19 (exec-cs t) (exec-at t) exec.Post
-exec-same-length-19 t c = search needs
+exec-same-length-19 t c = c .before .before .before .before .before .before .before .post .kept .1 .1 .1 .1 .1 .1 .1 .1 .1 .1 .1 .1 .1 .1 .1 .1 .1 .0
 
 pub exec-returns-6 : (t : ℕ) → exec-lts.Need-returns-6 (exec-cs t) (exec-at t) exec.Post
 exec-returns-6 t c =
@@ -317,16 +316,16 @@ exec-returns-6 t c =
     enters (a .file .now) (a .ctx .now) (a .user) (a .above) (a .n) price (omega (arith, after-if1 .if1 .left)) (after-post .post .ensures)
 
 pub exec-same-length-20 : (t : ℕ) → exec-lts.Need-same-length-20 (exec-cs t) (exec-at t) exec.Post
-exec-same-length-20 t c = search needs
+exec-same-length-20 t c = c .before .before .before .before .before .before .before .post2 .kept .1 .1 .1 .1 .1 .1 .1 .1 .1 .1 .1 .1 .1 .1 .0
 
 pub exec-same-length-21 : (t : ℕ) → exec-lts.Need-same-length-21 (exec-cs t) (exec-at t) exec.Post
-exec-same-length-21 t c = search needs
+exec-same-length-21 t c = c .before .before .before .before .before .before .before .post2 .kept .1 .1 .1 .1 .1 .1 .1 .1 .1 .1 .1 .1 .1 .1 .1 .0
 
 pub exec-same-length-22 : (t : ℕ) → exec-lts.Need-same-length-22 (exec-cs t) (exec-at t) exec.Post
-exec-same-length-22 t c = search needs
+exec-same-length-22 t c = c .before .before .before .before .before .before .before .post2 .kept .1 .1 .1 .1 .1 .1 .1 .1 .1 .1 .1 .1 .1 .1 .1 .1 .0
 
 pub exec-same-length-23 : (t : ℕ) → exec-lts.Need-same-length-23 (exec-cs t) (exec-at t) exec.Post
-exec-same-length-23 t c = search needs
+exec-same-length-23 t c = c .before .before .before .before .before .before .before .post2 .kept .1 .1 .1 .1 .1 .1 .1 .1 .1 .1 .1 .1 .1 .1 .1 .1 .1 .0
 
 pub exec-returns-7 : (t : ℕ) → exec-lts.Need-returns-7 (exec-cs t) (exec-at t) exec.Post
 exec-returns-7 t c =
@@ -341,16 +340,16 @@ exec-returns-7 t c =
     enters (a .file .now) (a .ctx .now) (a .user) (a .above) (a .n) price (omega (arith, after-if1 .if1 .left)) (after-post2 .post2 .ensures)
 
 pub exec-same-length-24 : (t : ℕ) → exec-lts.Need-same-length-24 (exec-cs t) (exec-at t) exec.Post
-exec-same-length-24 t c = search needs
+exec-same-length-24 t c = refl
 
 pub exec-same-length-25 : (t : ℕ) → exec-lts.Need-same-length-25 (exec-cs t) (exec-at t) exec.Post
-exec-same-length-25 t c = search needs
+exec-same-length-25 t c = refl
 
 pub exec-same-length-26 : (t : ℕ) → exec-lts.Need-same-length-26 (exec-cs t) (exec-at t) exec.Post
-exec-same-length-26 t c = search needs
+exec-same-length-26 t c = refl
 
 pub exec-same-length-27 : (t : ℕ) → exec-lts.Need-same-length-27 (exec-cs t) (exec-at t) exec.Post
-exec-same-length-27 t c = search needs
+exec-same-length-27 t c = c .before .before .out .kept .1 .1 .1 .1 .1 .1 .1 .1 .1 .1 .1 .1 .1 .0
 
 pub exec-returns-8 : (t : ℕ) → exec-lts.Need-returns-8 (exec-cs t) (exec-at t) exec.Post
 exec-returns-8 t c =
@@ -366,7 +365,7 @@ exec-returns-8 t c =
     (after-out .out .ensures .does (a .user) (a .above) (a .write .now))
 
 pub exec-same-length-28 : (t : ℕ) → exec-lts.Need-same-length-28 (exec-cs t) (exec-at t) exec.Post
-exec-same-length-28 t c = search needs
+exec-same-length-28 t c = c .before .before .change .kept .1 .1 .1 .1 .1 .1 .1 .1 .1 .1 .0
 
 pub exec-returns-9 : (t : ℕ) → exec-lts.Need-returns-9 (exec-cs t) (exec-at t) exec.Post
 exec-returns-9 t c =
@@ -382,7 +381,7 @@ exec-returns-9 t c =
     (after-change .change .ensures .does (a .above) (vars-of (a .vars .now) (a .tags .now)) (a .amounts .now) (a .presence .now) (a .labels .now))
 
 pub exec-same-length-29 : (t : ℕ) → exec-lts.Need-same-length-29 (exec-cs t) (exec-at t) exec.Post
-exec-same-length-29 t c = search needs
+exec-same-length-29 t c = c .before .before .change2 .kept .1 .1 .1 .1 .1 .1 .1 .1 .1 .1 .0
 
 pub exec-returns-10 : (t : ℕ) → exec-lts.Need-returns-10 (exec-cs t) (exec-at t) exec.Post
 exec-returns-10 t c =

@@ -1,5 +1,4 @@
 -- The needs of `fire`.
-use borrow.Author.Needs.{needs}
 use native.Mathlib.Omega.{arith}
 use mathlib.Core.Path.{_≡_, sym, ap, _∙_}
 use Prim.Native.Nat.{ℕ, _+_, _<_}
@@ -27,7 +26,7 @@ fire-section-at-requires t c κs =
     (omega arith, sited .long, sited .back 5 (omega arith))
 
 pub fire-finished-requires : (t : ℕ) → fire-lts.Need-finished-requires (fire-cs t) (fire-at t) fire.Post
-fire-finished-requires t c κs = search needs
+fire-finished-requires t c κs = tt
 
 pub fire-returns : (t : ℕ) → fire-lts.Need-returns (fire-cs t) (fire-at t) fire.Post
 fire-returns t c =
@@ -80,16 +79,16 @@ fire-fire-requires t c κs =
     (omega (arith, start .pre .0, inside, sited .few-triggers), (lent, start .pre .1 .1))
 
 pub fire-same-length : (t : ℕ) → fire-lts.Need-same-length (fire-cs t) (fire-at t) fire.Post
-fire-same-length t c = search needs
+fire-same-length t c = c .before .before .before .before .before .before .before .fire .kept .1 .1 .1 .1 .1 .1 .1 .1 .1 .1 .1 .1 .1 .1 .1 .0
 
 pub fire-same-length-2 : (t : ℕ) → fire-lts.Need-same-length-2 (fire-cs t) (fire-at t) fire.Post
-fire-same-length-2 t c = search needs
+fire-same-length-2 t c = c .before .before .before .before .before .before .before .fire .kept .1 .1 .1 .1 .1 .1 .1 .1 .1 .1 .1 .1 .1 .1 .1 .1 .0
 
 pub fire-same-length-3 : (t : ℕ) → fire-lts.Need-same-length-3 (fire-cs t) (fire-at t) fire.Post
-fire-same-length-3 t c = search needs
+fire-same-length-3 t c = c .before .before .before .before .before .before .before .fire .kept .1 .1 .1 .1 .1 .1 .1 .1 .1 .1 .1 .1 .1 .1 .1 .1 .1 .0
 
 pub fire-same-length-4 : (t : ℕ) → fire-lts.Need-same-length-4 (fire-cs t) (fire-at t) fire.Post
-fire-same-length-4 t c = search needs
+fire-same-length-4 t c = c .before .before .before .before .before .before .before .fire .kept .1 .1 .1 .1 .1 .1 .1 .1 .1 .1 .1 .1 .1 .1 .1 .1 .1 .1 .0
 
 pub fire-returns-2 : (t : ℕ) → fire-lts.Need-returns-2 (fire-cs t) (fire-at t) fire.Post
 fire-returns-2 t c =
@@ -112,7 +111,7 @@ fire-returns-2 t c =
     (fires-as (a .file .now) (a .ctx .now) (a .t + 1) (a .event) (a .place) (a .label .now) owner line amount (after-fire .fire .ensures))
 
 pub fire-variables-requires : (t : ℕ) → fire-lts.Need-variables-requires (fire-cs t) (fire-at t) fire.Post
-fire-variables-requires t c κs = search needs
+fire-variables-requires t c κs = tt
 
 pub fire-mul-at : (t : ℕ) → fire-lts.Need-mul-at (fire-cs t) (fire-at t) fire.Post
 fire-mul-at t c =
@@ -237,22 +236,22 @@ fire-exec-requires t c κs =
     )
 
 pub fire-enum-told : (t : ℕ) → fire-lts.Need-enum-told (fire-cs t) (fire-at t) fire.Post
-fire-enum-told t c = search needs
+fire-enum-told t c = c .match .keys1
 
 pub fire-enum-told-2 : (t : ℕ) → fire-lts.Need-enum-told-2 (fire-cs t) (fire-at t) fire.Post
-fire-enum-told-2 t c = search needs
+fire-enum-told-2 t c = c .match .keys2
 
 pub fire-same-length-5 : (t : ℕ) → fire-lts.Need-same-length-5 (fire-cs t) (fire-at t) fire.Post
-fire-same-length-5 t c = search needs
+fire-same-length-5 t c = c .before .before .before .before .before .before .before .before .before .exec .kept .1 .1 .1 .1 .1 .1 .1 .1 .1 .1 .1 .1 .1 .0
 
 pub fire-same-length-6 : (t : ℕ) → fire-lts.Need-same-length-6 (fire-cs t) (fire-at t) fire.Post
-fire-same-length-6 t c = search needs
+fire-same-length-6 t c = c .before .before .before .before .before .before .before .before .before .exec .kept .1 .1 .1 .1 .1 .1 .1 .1 .1 .1 .1 .1 .1 .1 .0
 
 pub fire-same-length-7 : (t : ℕ) → fire-lts.Need-same-length-7 (fire-cs t) (fire-at t) fire.Post
-fire-same-length-7 t c = search needs
+fire-same-length-7 t c = c .before .before .before .before .before .before .before .before .before .exec .kept .1 .1 .1 .1 .1 .1 .1 .1 .1 .1 .1 .1 .1 .1 .1 .0
 
 pub fire-same-length-8 : (t : ℕ) → fire-lts.Need-same-length-8 (fire-cs t) (fire-at t) fire.Post
-fire-same-length-8 t c = search needs
+fire-same-length-8 t c = c .before .before .before .before .before .before .before .before .before .exec .kept .1 .1 .1 .1 .1 .1 .1 .1 .1 .1 .1 .1 .1 .1 .1 .1 .0
 
 pub fire-returns-3 : (t : ℕ) → fire-lts.Need-returns-3 (fire-cs t) (fire-at t) fire.Post
 fire-returns-3 t c =
@@ -319,16 +318,16 @@ fire-fire-requires-2 t c κs =
     )
 
 pub fire-same-length-9 : (t : ℕ) → fire-lts.Need-same-length-9 (fire-cs t) (fire-at t) fire.Post
-fire-same-length-9 t c = search needs
+fire-same-length-9 t c = c .before .before .before .before .before .before .before .fire2 .kept .1 .1 .1 .1 .1 .1 .1 .1 .1 .1 .1 .1 .1 .1 .1 .0 ∙ c .before .before .before .before .before .before .before .before .before .before .before .before .before .before .before .before .before .before .before .before .before .before .before .exec .kept .1 .1 .1 .1 .1 .1 .1 .1 .1 .1 .1 .1 .1 .0
 
 pub fire-same-length-10 : (t : ℕ) → fire-lts.Need-same-length-10 (fire-cs t) (fire-at t) fire.Post
-fire-same-length-10 t c = search needs
+fire-same-length-10 t c = c .before .before .before .before .before .before .before .fire2 .kept .1 .1 .1 .1 .1 .1 .1 .1 .1 .1 .1 .1 .1 .1 .1 .1 .0 ∙ c .before .before .before .before .before .before .before .before .before .before .before .before .before .before .before .before .before .before .before .before .before .before .before .exec .kept .1 .1 .1 .1 .1 .1 .1 .1 .1 .1 .1 .1 .1 .1 .0
 
 pub fire-same-length-11 : (t : ℕ) → fire-lts.Need-same-length-11 (fire-cs t) (fire-at t) fire.Post
-fire-same-length-11 t c = search needs
+fire-same-length-11 t c = c .before .before .before .before .before .before .before .fire2 .kept .1 .1 .1 .1 .1 .1 .1 .1 .1 .1 .1 .1 .1 .1 .1 .1 .1 .0 ∙ c .before .before .before .before .before .before .before .before .before .before .before .before .before .before .before .before .before .before .before .before .before .before .before .exec .kept .1 .1 .1 .1 .1 .1 .1 .1 .1 .1 .1 .1 .1 .1 .1 .0
 
 pub fire-same-length-12 : (t : ℕ) → fire-lts.Need-same-length-12 (fire-cs t) (fire-at t) fire.Post
-fire-same-length-12 t c = search needs
+fire-same-length-12 t c = c .before .before .before .before .before .before .before .fire2 .kept .1 .1 .1 .1 .1 .1 .1 .1 .1 .1 .1 .1 .1 .1 .1 .1 .1 .1 .0 ∙ c .before .before .before .before .before .before .before .before .before .before .before .before .before .before .before .before .before .before .before .before .before .before .before .exec .kept .1 .1 .1 .1 .1 .1 .1 .1 .1 .1 .1 .1 .1 .1 .1 .1 .0
 
 pub fire-returns-4 : (t : ℕ) → fire-lts.Need-returns-4 (fire-cs t) (fire-at t) fire.Post
 fire-returns-4 t c =

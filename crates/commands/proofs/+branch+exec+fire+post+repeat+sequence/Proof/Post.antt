@@ -1,5 +1,4 @@
 -- The needs of `post`.
-use borrow.Author.Needs.{needs}
 use native.Mathlib.Omega.{arith}
 use mathlib.Core.Path.{_≡_, refl, _∙_}
 use Prim.Native.Nat.{ℕ}
@@ -57,22 +56,22 @@ post-eval-requires t c κs =
     ((lent .ready, child-node (after-u16-at .u16-at .ensures .0 ∙ node .a) (fields .a)), lent .cells)
 
 pub post-enum-known-first : (t : ℕ) → post-lts.Need-enum-known-first (post-cs t) (post-at t) post.Post
-post-enum-known-first t c = search needs
+post-enum-known-first t c = c .match .keys1
 
 pub post-enum-told : (t : ℕ) → post-lts.Need-enum-told (post-cs t) (post-at t) post.Post
-post-enum-told t c = search needs
+post-enum-told t c = c .match .keys2
 
 pub post-failed-requires : (t : ℕ) → post-lts.Need-failed-requires (post-cs t) (post-at t) post.Post
-post-failed-requires t c κs = search needs
+post-failed-requires t c κs = tt
 
 pub post-same-length : (t : ℕ) → post-lts.Need-same-length (post-cs t) (post-at t) post.Post
-post-same-length t c = search needs
+post-same-length t c = refl
 
 pub post-same-length-2 : (t : ℕ) → post-lts.Need-same-length-2 (post-cs t) (post-at t) post.Post
-post-same-length-2 t c = search needs
+post-same-length-2 t c = refl
 
 pub post-same-length-3 : (t : ℕ) → post-lts.Need-same-length-3 (post-cs t) (post-at t) post.Post
-post-same-length-3 t c = search needs
+post-same-length-3 t c = refl
 
 pub post-returns : (t : ℕ) → post-lts.Need-returns (post-cs t) (post-at t) post.Post
 post-returns t c =
@@ -115,22 +114,22 @@ post-eval-requires-2 t c κs =
     ((lent .ready, child-node (after-u16-at2 .u16-at2 .ensures .0 ∙ node .b) (fields .b)), lent .cells)
 
 pub post-enum-known-second : (t : ℕ) → post-lts.Need-enum-known-second (post-cs t) (post-at t) post.Post
-post-enum-known-second t c = search needs
+post-enum-known-second t c = c .match2 .keys1
 
 pub post-enum-told-2 : (t : ℕ) → post-lts.Need-enum-told-2 (post-cs t) (post-at t) post.Post
-post-enum-told-2 t c = search needs
+post-enum-told-2 t c = c .match2 .keys2
 
 pub post-failed-requires-2 : (t : ℕ) → post-lts.Need-failed-requires-2 (post-cs t) (post-at t) post.Post
-post-failed-requires-2 t c κs = search needs
+post-failed-requires-2 t c κs = tt
 
 pub post-same-length-4 : (t : ℕ) → post-lts.Need-same-length-4 (post-cs t) (post-at t) post.Post
-post-same-length-4 t c = search needs
+post-same-length-4 t c = refl
 
 pub post-same-length-5 : (t : ℕ) → post-lts.Need-same-length-5 (post-cs t) (post-at t) post.Post
-post-same-length-5 t c = search needs
+post-same-length-5 t c = refl
 
 pub post-same-length-6 : (t : ℕ) → post-lts.Need-same-length-6 (post-cs t) (post-at t) post.Post
-post-same-length-6 t c = search needs
+post-same-length-6 t c = refl
 
 pub post-returns-2 : (t : ℕ) → post-lts.Need-returns-2 (post-cs t) (post-at t) post.Post
 post-returns-2 t c =
@@ -157,22 +156,22 @@ post-new-amount-requires t c κs =
     ((lent .ready, lent .cells), (mine .0, mine .2))
 
 pub post-enum-known-third : (t : ℕ) → post-lts.Need-enum-known-third (post-cs t) (post-at t) post.Post
-post-enum-known-third t c = search needs
+post-enum-known-third t c = c .match3 .keys1
 
 pub post-enum-told-3 : (t : ℕ) → post-lts.Need-enum-told-3 (post-cs t) (post-at t) post.Post
-post-enum-told-3 t c = search needs
+post-enum-told-3 t c = c .match3 .keys2
 
 pub post-failed-requires-3 : (t : ℕ) → post-lts.Need-failed-requires-3 (post-cs t) (post-at t) post.Post
-post-failed-requires-3 t c κs = search needs
+post-failed-requires-3 t c κs = tt
 
 pub post-same-length-7 : (t : ℕ) → post-lts.Need-same-length-7 (post-cs t) (post-at t) post.Post
-post-same-length-7 t c = search needs
+post-same-length-7 t c = refl
 
 pub post-same-length-8 : (t : ℕ) → post-lts.Need-same-length-8 (post-cs t) (post-at t) post.Post
-post-same-length-8 t c = search needs
+post-same-length-8 t c = refl
 
 pub post-same-length-9 : (t : ℕ) → post-lts.Need-same-length-9 (post-cs t) (post-at t) post.Post
-post-same-length-9 t c = search needs
+post-same-length-9 t c = refl
 
 pub post-returns-3 : (t : ℕ) → post-lts.Need-returns-3 (post-cs t) (post-at t) post.Post
 post-returns-3 t c =
@@ -195,10 +194,10 @@ post-returns-3 t c =
     (c .failed3 .ensures) (lent .room)
 
 pub post-union-requires : (t : ℕ) → post-lts.Need-union-requires (post-cs t) (post-at t) post.Post
-post-union-requires t c κs = search needs
+post-union-requires t c κs = tt
 
 pub post-union-requires-2 : (t : ℕ) → post-lts.Need-union-requires-2 (post-cs t) (post-at t) post.Post
-post-union-requires-2 t c κs = search needs
+post-union-requires-2 t c κs = tt
 
 pub post-add-byte-at : (t : ℕ) → post-lts.Need-add-byte-at (post-cs t) (post-at t) post.Post
 post-add-byte-at t c =
@@ -228,13 +227,13 @@ post-post-requires t c κs =
     (mine .1, omega (arith, after-byte-at .byte-at .ensures .0, node .p, fields .p), lent .cells)
 
 pub post-enum-known-posted : (t : ℕ) → post-lts.Need-enum-known-posted (post-cs t) (post-at t) post.Post
-post-enum-known-posted t c = search needs
+post-enum-known-posted t c = c .match4 .keys1
 
 pub post-stopped-requires : (t : ℕ) → post-lts.Need-stopped-requires (post-cs t) (post-at t) post.Post
-post-stopped-requires t c κs = search needs
+post-stopped-requires t c κs = tt
 
 pub post-enum-known-posted-2 : (t : ℕ) → post-lts.Need-enum-known-posted-2 (post-cs t) (post-at t) post.Post
-post-enum-known-posted-2 t c = search needs
+post-enum-known-posted-2 t c = c .match4 .keys2
 
 pub post-fire-requires : (t : ℕ) → post-lts.Need-fire-requires (post-cs t) (post-at t) post.Post
 post-fire-requires t c κs =
@@ -255,13 +254,13 @@ post-fire-requires t c κs =
     )
 
 pub post-same-length-10 : (t : ℕ) → post-lts.Need-same-length-10 (post-cs t) (post-at t) post.Post
-post-same-length-10 t c = search needs
+post-same-length-10 t c = c .before .before .before .before .before .before .before .before .before .post .kept .1 .1 .1 .1 .1 .1 .1 .1 .1 .1 .0
 
 pub post-same-length-11 : (t : ℕ) → post-lts.Need-same-length-11 (post-cs t) (post-at t) post.Post
-post-same-length-11 t c = search needs
+post-same-length-11 t c = c .before .before .before .before .before .before .before .before .before .post .kept .1 .1 .1 .1 .1 .1 .1 .1 .1 .1 .1 .0
 
 pub post-same-length-12 : (t : ℕ) → post-lts.Need-same-length-12 (post-cs t) (post-at t) post.Post
-post-same-length-12 t c = search needs
+post-same-length-12 t c = c .before .before .before .before .before .before .before .before .before .post .kept .1 .1 .1 .1 .1 .1 .1 .1 .1 .1 .1 .1 .0
 
 pub post-returns-4 : (t : ℕ) → post-lts.Need-returns-4 (post-cs t) (post-at t) post.Post
 post-returns-4 t c =
@@ -299,16 +298,16 @@ post-returns-4 t c =
     (lent .room) (after-posted .posted .given .1) (c .stopped .ensures))
 
 pub post-same-length-13 : (t : ℕ) → post-lts.Need-same-length-13 (post-cs t) (post-at t) post.Post
-post-same-length-13 t c = search needs
+post-same-length-13 t c = c .before .before .before .before .before .before .before .fire .kept .1 .1 .1 .1 .1 .1 .1 .1 .1 .1 .1 .1 .1 .1 .1 .0 ∙ c .before .before .before .before .before .before .before .before .before .before .before .before .before .before .before .before .before .before .before .before .before .before .before .before .post .kept .1 .1 .1 .1 .1 .1 .1 .1 .1 .1 .0
 
 pub post-same-length-14 : (t : ℕ) → post-lts.Need-same-length-14 (post-cs t) (post-at t) post.Post
-post-same-length-14 t c = search needs
+post-same-length-14 t c = c .before .before .before .before .before .before .before .fire .kept .1 .1 .1 .1 .1 .1 .1 .1 .1 .1 .1 .1 .1 .1 .1 .1 .0 ∙ c .before .before .before .before .before .before .before .before .before .before .before .before .before .before .before .before .before .before .before .before .before .before .before .before .post .kept .1 .1 .1 .1 .1 .1 .1 .1 .1 .1 .1 .0
 
 pub post-same-length-15 : (t : ℕ) → post-lts.Need-same-length-15 (post-cs t) (post-at t) post.Post
-post-same-length-15 t c = search needs
+post-same-length-15 t c = c .before .before .before .before .before .before .before .fire .kept .1 .1 .1 .1 .1 .1 .1 .1 .1 .1 .1 .1 .1 .1 .1 .1 .1 .0 ∙ c .before .before .before .before .before .before .before .before .before .before .before .before .before .before .before .before .before .before .before .before .before .before .before .before .post .kept .1 .1 .1 .1 .1 .1 .1 .1 .1 .1 .1 .1 .0
 
 pub post-same-length-16 : (t : ℕ) → post-lts.Need-same-length-16 (post-cs t) (post-at t) post.Post
-post-same-length-16 t c = search needs
+post-same-length-16 t c = c .before .before .before .before .before .before .before .fire .kept .1 .1 .1 .1 .1 .1 .1 .1 .1 .1 .1 .1 .1 .1 .1 .1 .1 .1 .0
 
 pub post-returns-5 : (t : ℕ) → post-lts.Need-returns-5 (post-cs t) (post-at t) post.Post
 post-returns-5 t c =

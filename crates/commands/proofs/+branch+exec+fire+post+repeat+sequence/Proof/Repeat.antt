@@ -1,6 +1,6 @@
 -- The needs of `repeat`.
-use borrow.Author.Needs.{needs}
 use native.Mathlib.Omega.{arith}
+use lib.Dec.{lit<}
 use mathlib.Core.Path.{sym, _∙_}
 use Prim.Native.Nat.{ℕ}
 use Rattle.machine.specs.Store.{vars-of, store}
@@ -62,7 +62,7 @@ repeat-u16-at-requires-2 t c κs =
     omega (arith, node .end, node .short)
 
 pub repeat-element-copy-out-cost : (t : ℕ) → repeat-lts.Need-element-copy-out-cost (repeat-cs t) (repeat-at t) repeat.Post repeat-Inv-loop repeat-μ-loop
-repeat-element-copy-out-cost t c = search needs
+repeat-element-copy-out-cost t c = lit< tt
 
 pub repeat-loop-holds : (t : ℕ) → repeat-lts.Need-loop-holds (repeat-cs t) (repeat-at t) repeat.Post repeat-Inv-loop repeat-μ-loop
 repeat-loop-holds t c =
@@ -94,13 +94,13 @@ repeat-eval-requires t c κs =
     ((lent .ready, child-node (turning .test) (while-a (a .file .now) (lent .ready .accepted) (a .n) (mine .0 .inside) (mine .2))), turning .cells)
 
 pub repeat-enum-known-answer : (t : ℕ) → repeat-lts.Need-enum-known-answer (repeat-cs t) (repeat-at t) repeat.Post repeat-Inv-loop repeat-μ-loop
-repeat-enum-known-answer t c = search needs
+repeat-enum-known-answer t c = c .match .keys1
 
 pub repeat-enum-told : (t : ℕ) → repeat-lts.Need-enum-told (repeat-cs t) (repeat-at t) repeat.Post repeat-Inv-loop repeat-μ-loop
-repeat-enum-told t c = search needs
+repeat-enum-told t c = c .match .keys2
 
 pub repeat-failed-requires : (t : ℕ) → repeat-lts.Need-failed-requires (repeat-cs t) (repeat-at t) repeat.Post repeat-Inv-loop repeat-μ-loop
-repeat-failed-requires t c κs = search needs
+repeat-failed-requires t c κs = tt
 
 pub repeat-same-length : (t : ℕ) → repeat-lts.Need-same-length (repeat-cs t) (repeat-at t) repeat.Post repeat-Inv-loop repeat-μ-loop
 repeat-same-length t c =
@@ -153,7 +153,7 @@ repeat-returns t c =
     (after-enum-told .enum-told .given .1) (c .failed .ensures) (turned-room (a .file .now) (a .user) (a .above) (a .n) (turning .turned)))
 
 pub repeat-finished-requires : (t : ℕ) → repeat-lts.Need-finished-requires (repeat-cs t) (repeat-at t) repeat.Post repeat-Inv-loop repeat-μ-loop
-repeat-finished-requires t c κs = search needs
+repeat-finished-requires t c κs = tt
 
 pub repeat-same-length-5 : (t : ℕ) → repeat-lts.Need-same-length-5 (repeat-cs t) (repeat-at t) repeat.Post repeat-Inv-loop repeat-μ-loop
 repeat-same-length-5 t c =
@@ -210,7 +210,7 @@ repeat-returns-2 t c =
     (turned-room (a .file .now) (a .user) (a .above) (a .n) (turning .turned)))
 
 pub repeat-union-requires : (t : ℕ) → repeat-lts.Need-union-requires (repeat-cs t) (repeat-at t) repeat.Post repeat-Inv-loop repeat-μ-loop
-repeat-union-requires t c κs = search needs
+repeat-union-requires t c κs = tt
 
 pub repeat-exec-requires : (t : ℕ) → repeat-lts.Need-exec-requires (repeat-cs t) (repeat-at t) repeat.Post repeat-Inv-loop repeat-μ-loop
 repeat-exec-requires t c κs =
@@ -230,10 +230,10 @@ repeat-exec-requires t c κs =
     )
 
 pub repeat-enum-told-2 : (t : ℕ) → repeat-lts.Need-enum-told-2 (repeat-cs t) (repeat-at t) repeat.Post repeat-Inv-loop repeat-μ-loop
-repeat-enum-told-2 t c = search needs
+repeat-enum-told-2 t c = c .match2 .keys1
 
 pub repeat-enum-told-3 : (t : ℕ) → repeat-lts.Need-enum-told-3 (repeat-cs t) (repeat-at t) repeat.Post repeat-Inv-loop repeat-μ-loop
-repeat-enum-told-3 t c = search needs
+repeat-enum-told-3 t c = c .match2 .keys2
 
 pub repeat-same-length-9 : (t : ℕ) → repeat-lts.Need-same-length-9 (repeat-cs t) (repeat-at t) repeat.Post repeat-Inv-loop repeat-μ-loop
 repeat-same-length-9 t c =
@@ -295,7 +295,7 @@ repeat-returns-3 t c =
     (c .enum-told3 .given .1))
 
 pub repeat-stopped-requires : (t : ℕ) → repeat-lts.Need-stopped-requires (repeat-cs t) (repeat-at t) repeat.Post repeat-Inv-loop repeat-μ-loop
-repeat-stopped-requires t c κs = search needs
+repeat-stopped-requires t c κs = tt
 
 pub repeat-same-length-13 : (t : ℕ) → repeat-lts.Need-same-length-13 (repeat-cs t) (repeat-at t) repeat.Post repeat-Inv-loop repeat-μ-loop
 repeat-same-length-13 t c =

@@ -1,5 +1,4 @@
 -- The needs of `sequence`.
-use borrow.Author.Needs.{needs}
 use native.Mathlib.Omega.{arith}
 use mathlib.Core.Path.{_∙_}
 use Prim.Native.Nat.{ℕ}
@@ -62,22 +61,22 @@ sequence-exec-requires t c κs =
     )
 
 pub sequence-enum-told : (t : ℕ) → sequence-lts.Need-enum-told (sequence-cs t) (sequence-at t) sequence.Post
-sequence-enum-told t c = search needs
+sequence-enum-told t c = c .match .keys1
 
 pub sequence-enum-told-2 : (t : ℕ) → sequence-lts.Need-enum-told-2 (sequence-cs t) (sequence-at t) sequence.Post
-sequence-enum-told-2 t c = search needs
+sequence-enum-told-2 t c = c .match .keys2
 
 pub sequence-same-length : (t : ℕ) → sequence-lts.Need-same-length (sequence-cs t) (sequence-at t) sequence.Post
-sequence-same-length t c = search needs
+sequence-same-length t c = c .before .before .before .before .before .before .before .before .before .exec .kept .1 .1 .1 .1 .1 .1 .1 .1 .1 .1 .1 .1 .1 .0
 
 pub sequence-same-length-2 : (t : ℕ) → sequence-lts.Need-same-length-2 (sequence-cs t) (sequence-at t) sequence.Post
-sequence-same-length-2 t c = search needs
+sequence-same-length-2 t c = c .before .before .before .before .before .before .before .before .before .exec .kept .1 .1 .1 .1 .1 .1 .1 .1 .1 .1 .1 .1 .1 .1 .0
 
 pub sequence-same-length-3 : (t : ℕ) → sequence-lts.Need-same-length-3 (sequence-cs t) (sequence-at t) sequence.Post
-sequence-same-length-3 t c = search needs
+sequence-same-length-3 t c = c .before .before .before .before .before .before .before .before .before .exec .kept .1 .1 .1 .1 .1 .1 .1 .1 .1 .1 .1 .1 .1 .1 .1 .0
 
 pub sequence-same-length-4 : (t : ℕ) → sequence-lts.Need-same-length-4 (sequence-cs t) (sequence-at t) sequence.Post
-sequence-same-length-4 t c = search needs
+sequence-same-length-4 t c = c .before .before .before .before .before .before .before .before .before .exec .kept .1 .1 .1 .1 .1 .1 .1 .1 .1 .1 .1 .1 .1 .1 .1 .1 .0
 
 pub sequence-returns : (t : ℕ) → sequence-lts.Need-returns (sequence-cs t) (sequence-at t) sequence.Post
 sequence-returns t c =
@@ -131,16 +130,16 @@ sequence-exec-requires-2 t c κs =
     )
 
 pub sequence-same-length-5 : (t : ℕ) → sequence-lts.Need-same-length-5 (sequence-cs t) (sequence-at t) sequence.Post
-sequence-same-length-5 t c = search needs
+sequence-same-length-5 t c = c .before .before .before .before .before .before .before .exec2 .kept .1 .1 .1 .1 .1 .1 .1 .1 .1 .1 .1 .1 .1 .0 ∙ c .before .before .before .before .before .before .before .before .before .before .before .before .before .before .before .before .before .before .before .before .before .before .before .before .before .before .exec .kept .1 .1 .1 .1 .1 .1 .1 .1 .1 .1 .1 .1 .1 .0
 
 pub sequence-same-length-6 : (t : ℕ) → sequence-lts.Need-same-length-6 (sequence-cs t) (sequence-at t) sequence.Post
-sequence-same-length-6 t c = search needs
+sequence-same-length-6 t c = c .before .before .before .before .before .before .before .exec2 .kept .1 .1 .1 .1 .1 .1 .1 .1 .1 .1 .1 .1 .1 .1 .0 ∙ c .before .before .before .before .before .before .before .before .before .before .before .before .before .before .before .before .before .before .before .before .before .before .before .before .before .before .exec .kept .1 .1 .1 .1 .1 .1 .1 .1 .1 .1 .1 .1 .1 .1 .0
 
 pub sequence-same-length-7 : (t : ℕ) → sequence-lts.Need-same-length-7 (sequence-cs t) (sequence-at t) sequence.Post
-sequence-same-length-7 t c = search needs
+sequence-same-length-7 t c = c .before .before .before .before .before .before .before .exec2 .kept .1 .1 .1 .1 .1 .1 .1 .1 .1 .1 .1 .1 .1 .1 .1 .0 ∙ c .before .before .before .before .before .before .before .before .before .before .before .before .before .before .before .before .before .before .before .before .before .before .before .before .before .before .exec .kept .1 .1 .1 .1 .1 .1 .1 .1 .1 .1 .1 .1 .1 .1 .1 .0
 
 pub sequence-same-length-8 : (t : ℕ) → sequence-lts.Need-same-length-8 (sequence-cs t) (sequence-at t) sequence.Post
-sequence-same-length-8 t c = search needs
+sequence-same-length-8 t c = c .before .before .before .before .before .before .before .exec2 .kept .1 .1 .1 .1 .1 .1 .1 .1 .1 .1 .1 .1 .1 .1 .1 .1 .0 ∙ c .before .before .before .before .before .before .before .before .before .before .before .before .before .before .before .before .before .before .before .before .before .before .before .before .before .before .exec .kept .1 .1 .1 .1 .1 .1 .1 .1 .1 .1 .1 .1 .1 .1 .1 .1 .0
 
 pub sequence-returns-2 : (t : ℕ) → sequence-lts.Need-returns-2 (sequence-cs t) (sequence-at t) sequence.Post
 sequence-returns-2 t c =
