@@ -1,10 +1,10 @@
 -- Signed numbers: what 64 bits hold of sums and differences of 32, and the tests of the code as those of the rules. Assumes nothing.
 use mathlib.Core.Path.{_≡_, refl, sym, ap, _∙_}
-use mathlib.Core.Bool.{Bool, true, false, cond, _&&_, false≢true}
-use Prim.Native.Nat.{ℕ, zero, suc, _-_, _^_, _<_}
+use mathlib.Core.Bool.{Bool, true, false, _&&_, false≢true}
+use Prim.Native.Nat.{zero, suc, _+_, _^_, _≤_, _<_}
 use native.Mathlib.Nat.{le-refl, le-antisymm}
 use native.Mathlib.Omega.{arith}
-use lib.Dec.{leb, ltb}
+use lib.Dec.{leb}
 use lib.IntN.{ℤ, pos, negsuc, _+ℤ_, _-ℤ_, negℤ}
 use lib.Signed.{mag, ltZ, leZ}
 use mir.Syntax.{Width, w32, w64}
@@ -13,6 +13,7 @@ use mir.Facts.{toZ-ofZ, sfits-widen}
 use borrow.Author.Tests.{le-ltb, le-leb, ltb-true, ltb-false, leb-true}
 use Rattle.book.proofs.Chains.{both}
 use Rattle.monitor.specs.Rules.{fits-32, from-bool, equals}
+use Rattle.queries.proofs.Tallies.{mag-sum}
 
 -- ---- 32 bits
 
@@ -32,15 +33,10 @@ within (negsuc n) e f = record { sfits = omega (arith, ltb-false 2147483647 n e)
 
 -- ---- sums and differences
 
-mag-cond : (t : Bool) (x y n : ℕ) → x < n → y < n → mag (cond t (negsuc x) (pos y)) < n
-mag-cond true x y n p q = p
-mag-cond false x y n p q = q
-
 sum-mag : (a b : ℤ) → mag a < 2 ^ 32 → mag b < 2 ^ 32 → mag (a +ℤ b) < 2 ^ 34
-sum-mag (pos a) (pos b) p q = omega arith
-sum-mag (pos a) (negsuc b) p q = mag-cond (ltb a (suc b)) (suc b - suc a) (a - suc b) (2 ^ 34) (omega arith) (omega arith)
-sum-mag (negsuc a) (pos b) p q = mag-cond (ltb b (suc a)) (suc a - suc b) (b - suc a) (2 ^ 34) (omega arith) (omega arith)
-sum-mag (negsuc a) (negsuc b) p q = omega arith
+sum-mag a b p q =
+    let h : mag (a +ℤ b) ≤ mag a + mag b + 1 = mag-sum a b in
+    omega arith
 
 neg-mag : (a : ℤ) → mag a < 2 ^ 31 → mag (negℤ a) < 2 ^ 32
 neg-mag (pos zero) p = omega arith

@@ -3,10 +3,9 @@
 use mathlib.Core.List.{List, [], _∷_, _++_}
 use Prim.Native.Nat.{ℕ}
 use lib.IntN.{pos}
-use Rattle.book.specs.Records.{RightRecord, NodeRecord, TriggerRecord}
-use Rattle.book.specs.Encode.{encode}
-use Rattle.monitor.specs.Tables.{cell, table-region, public, may-read, may-write, constant, variable, plus, minus, equals, less, count, sum, smallest, largest, skip, assign, both, if, while, put, clear, out, grant-read, grant-write, revoke-read, revoke-write, raise, program, trigger, Row, Shows, run-list, shows, told, changed}
-use Rattle.monitor.specs.Marked.{w-file, w-rights, w-with}
+use Rattle.book.specs.Records.{RightRecord, NodeRecord, TriggerRecord, Book}
+use Rattle.monitor.specs.Tables.{cell, table-region, public, may-read, may-write, constant, variable, plus, minus, equals, less, count, sum, smallest, largest, skip, assign, both, if, while, put, clear, out, grant-read, grant-write, revoke-read, revoke-write, raise, program, trigger, Row, ran, Shows, run-list, shows, told, changed}
+use Rattle.monitor.specs.Marked.{w-rights, w-nodes, w-with}
 
 -- ---- without triggers: W with other nodes from 4 on; nodes 0 to 3 are the constants 0, 1, 2, 7
 
@@ -69,16 +68,16 @@ abbrev pub copying : List NodeRecord
 copying = constant (pos 0) ∷ constant (pos 1) ∷ constant (pos 2) ∷ variable 0 ∷ variable 1 ∷ variable 2 ∷ put 1 3 4 5 ∷ []
 
 -- cell (0,1,0) holds 1; further rights, nodes from 7 on, the root of user 0's program, and the triggers
-abbrev pub posting : List RightRecord → List NodeRecord → ℕ → List TriggerRecord → List ℕ
+abbrev pub posting : List RightRecord → List NodeRecord → ℕ → List TriggerRecord → Book
 posting rights nodes root triggers =
-    encode (record {
+    record {
       cells = cell 0 1 0 (pos 1) ∷ [];
       regions = table-region 0 ∷ table-region 1 ∷ [];
       rights = may-write 0 0 ∷ may-write 3 1 ∷ rights;
       nodes = copying ++ nodes;
       programs = program 0 root ∷ [];
       triggers = triggers;
-    })
+    }
 
 -- 2 is put at owner 1, line 0, and the copy is shown to user 1
 abbrev pub posted : List NodeRecord
@@ -106,7 +105,7 @@ cleared = plus 5 1 ∷ put 1 3 4 7 ∷ clear 0 2 1 ∷ sum 1 2 2 1 1 ∷ out 10 
 
 -- ---- the table
 
-unfoldable pub examples : List Row
+unfoldable pub examples : List (Row Book)
 examples =
     -- count, smallest and largest: 11, 10, three outs and queries
     run-list (w-with (may-read 1 0 ∷ may-read 1 1 ∷ []) queries (program 0 11 ∷ []))
@@ -116,7 +115,7 @@ examples =
     -- minus one, yes and no: 11, 10, outs with 3, 5 and 3 nodes below
     ∷ run-list (w-with w-rights comparing (program 0 11 ∷ [])) (shows 0 0 16 24 ((1 ∷ 1 ∷ 0 ∷ 0 ∷ 255 ∷ 255 ∷ 255 ∷ 255 ∷ []) ∷ told 1 ∷ told 0 ∷ []))
     -- eight bytes of trace are room for one record, and not readable comes before no room
-    ∷ record { file = w-file; budget = 100000; trace = 8; shows = shows 27 7 19 8 (told 250 ∷ []) }
+    ∷ record { of = w-with w-rights w-nodes (program 0 8 ∷ []); budget = 100000; trace = 8; shows = shows 27 7 19 8 (told 250 ∷ []) }
     -- an assigned variable's label does not keep the old one; seven nodes
     ∷ run-list (w-with w-rights lowered (program 0 9 ∷ [])) (shows 0 0 7 8 (told 1 ∷ []))
     -- a while costs 2 for each of its three tests, its body 4 for each of two turns; 9, 4 and a constant cost 3
@@ -168,7 +167,7 @@ examples =
     -- trigger 0's write fires trigger 1, and trigger 1's write does not fire trigger 0: 11, three puts of 4, out and query; the budget
     -- is just enough
     ∷ record {
-      file = posting (may-read 1 0 ∷ []) back-and-forth 11 (trigger 0 1 3 6 ∷ trigger 1 1 0 8 ∷ []);
+      of = posting (may-read 1 0 ∷ []) back-and-forth 11 (trigger 0 1 3 6 ∷ trigger 1 1 0 8 ∷ []);
       budget = 22;
       trace = 4096;
       shows = shows 0 0 22 8 (told 4 ∷ []);
@@ -178,4 +177,4 @@ examples =
     ∷ []
 
 abbrev pub Examples : Type 0
-Examples = Shows examples
+Examples = Shows ran examples

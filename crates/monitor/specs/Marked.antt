@@ -2,9 +2,9 @@
 use mathlib.Core.List.{List, [], _∷_, _++_}
 use Prim.Native.Nat.{ℕ}
 use lib.IntN.{pos}
-use Rattle.book.specs.Records.{CellRecord, RegionRecord, RightRecord, NodeRecord, ProgramRecord}
+use Rattle.book.specs.Records.{CellRecord, RegionRecord, RightRecord, NodeRecord, ProgramRecord, Book}
 use Rattle.book.specs.Encode.{encode}
-use Rattle.monitor.specs.Tables.{cell, owner-region, may-read, constant, variable, plus, sum, skip, assign, both, if, out, raise, program, Row, Shows, run-list, shows, told}
+use Rattle.monitor.specs.Tables.{cell, owner-region, may-read, constant, variable, plus, sum, skip, assign, both, if, out, raise, program, Row, called, Shows, run-list, shows, told}
 
 -- ---- Book W
 
@@ -51,10 +51,13 @@ constants = constant (pos 0) ∷ constant (pos 1) ∷ constant (pos 2) ∷ const
 abbrev pub w-nodes : List NodeRecord
 w-nodes = sum 0 1 1 0 3 ∷ sum 0 1 2 0 3 ∷ out 4 1 ∷ out 5 1 ∷ both 6 7 ∷ []
 
--- the bytes of W with other rights, other nodes from 4 on and other programs
-abbrev pub w-with : List RightRecord → List NodeRecord → List ProgramRecord → List ℕ
+-- W with other rights, other nodes from 4 on and other programs, and the bytes of that book
+abbrev pub w-with : List RightRecord → List NodeRecord → List ProgramRecord → Book
 w-with rights nodes programs =
-    encode (record { cells = w-cells; regions = w-regions; rights = rights; nodes = constants ++ nodes; programs = programs; triggers = [] })
+    record { cells = w-cells; regions = w-regions; rights = rights; nodes = constants ++ nodes; programs = programs; triggers = [] }
+
+abbrev pub w-file-with : List RightRecord → List NodeRecord → List ProgramRecord → List ℕ
+w-file-with rights nodes programs = encode (w-with rights nodes programs)
 
 -- ---- the table
 
@@ -75,31 +78,31 @@ branching =
 
 -- The numbers are the paper's, and so are node and cost in the first six rows. In the others they follow from its rules: a query
 -- with its four bounds costs 8, every other node 1.
-unfoldable pub marked : List Row
+unfoldable pub marked : List (Row (List ℕ))
 marked =
     -- W: 8, 6 and the query 4 cost 10, and then 7 and the query 5 cost 9
     run-list w-file (shows 27 7 19 8 (told 250 ∷ []))
     -- budget 18: the last constant of 5 no longer fits
-    ∷ record { file = w-file; budget = 18; trace = 4096; shows = shows 21 3 18 8 (told 250 ∷ []) }
+    ∷ record { of = w-file; budget = 18; trace = 4096; shows = shows 21 3 18 8 (told 250 ∷ []) }
     -- budget 14: 11 are spent when 5 would cost 4
-    ∷ record { file = w-file; budget = 14; trace = 4096; shows = shows 21 5 11 8 (told 250 ∷ []) }
+    ∷ record { of = w-file; budget = 14; trace = 4096; shows = shows 21 5 11 8 (told 250 ∷ []) }
     -- trace 7 bytes
-    ∷ record { file = w-file; budget = 100000; trace = 7; shows = shows 30 6 10 0 [] }
+    ∷ record { of = w-file; budget = 100000; trace = 7; shows = shows 30 6 10 0 [] }
     -- no right for user 1
-    ∷ run-list (w-with (may-read 2 1 ∷ []) w-nodes (program 0 8 ∷ [])) (shows 27 6 10 0 [])
+    ∷ run-list (w-file-with (may-read 2 1 ∷ []) w-nodes (program 0 8 ∷ [])) (shows 27 6 10 0 [])
     -- no programs
-    ∷ run-list (w-with w-rights w-nodes []) (shows 0 0 0 0 [])
+    ∷ run-list (w-file-with w-rights w-nodes []) (shows 0 0 0 0 [])
     -- 2147483647 + 1: out, sum and two constants are entered
-    ∷ run-list (w-with w-rights beyond (program 0 6 ∷ [])) (shows 22 5 4 0 [])
+    ∷ run-list (w-file-with w-rights beyond (program 0 6 ∷ [])) (shows 22 5 4 0 [])
     -- first 3, last 2: out and a query
-    ∷ run-list (w-with w-rights none-matched (program 0 6 ∷ [])) (shows 0 0 9 8 (told 0 ∷ []))
+    ∷ run-list (w-file-with w-rights none-matched (program 0 6 ∷ [])) (shows 0 0 9 8 (told 0 ∷ []))
     -- a fresh variable: if, a query, assignment and constant
-    ∷ run-list (w-with w-rights branching (program 0 7 ∷ [])) (shows 25 5 11 0 [])
+    ∷ run-list (w-file-with w-rights branching (program 0 7 ∷ [])) (shows 25 5 11 0 [])
     -- raised first: two nodes more, and the run passes
-    ∷ run-list (w-with w-rights branching (program 0 9 ∷ [])) (shows 0 0 13 0 [])
+    ∷ run-list (w-file-with w-rights branching (program 0 9 ∷ [])) (shows 0 0 13 0 [])
     -- and out to user 1: three nodes more
-    ∷ run-list (w-with w-rights branching (program 0 12 ∷ [])) (shows 27 11 16 0 [])
+    ∷ run-list (w-file-with w-rights branching (program 0 12 ∷ [])) (shows 27 11 16 0 [])
     ∷ []
 
 abbrev pub Marked : Type 0
-Marked = Shows marked
+Marked = Shows called marked

@@ -1,13 +1,17 @@
--- Tables of whole calls: books written record by record, and rows that say what a call gives.
+-- Tables: books written record by record, and rows that say what a call on a file, or the run of a book, gives.
 use mathlib.Core.Path.{_≡_}
 use mathlib.Core.List.{List, [], _∷_, map}
 use mathlib.Core.Bool.{true}
-use Prim.Native.Nat.{ℕ}
+use Prim.Native.Nat.{ℕ, _/_}
 use lib.IntN.{ℤ, pos}
-use lib.ListN.{replicate}
-use Rattle.book.specs.Records.{CellRecord, RegionRecord, RightRecord, NodeRecord, ProgramRecord, TriggerRecord}
-use Rattle.monitor.specs.Call.{Memory, Values, values, call}
+use lib.ListN.{length, replicate}
+use Rattle.book.specs.Records.{CellRecord, RegionRecord, RightRecord, NodeRecord, ProgramRecord, TriggerRecord, Book}
+use Rattle.book.specs.Refusals.{book-verdict}
+use Rattle.book.specs.declared.Verdict.{Verdict}
+use Rattle.book.specs.declared.Verdict.the-variants as verdicts
+use Rattle.monitor.specs.Call.{Memory, Result, Values, values, run-book, result-of, call}
 use Rattle.monitor.specs.TwoBooks.{trace-records}
+use Rattle.monitor.specs.declared.Answer.the-variants.{Refused}
 
 -- ---- records, their zeros left out
 
@@ -117,16 +121,16 @@ pub record Shown : Type 0 where
   pub answer : Values
   pub records : List (List ℕ)
 
--- a call, and what it is to show
-pub record Row : Type 0 where
-  pub file : List ℕ
+-- a file to call, or a book to run, and what that is to show
+pub record Row (A : Type 0) : Type 0 where
+  pub of : A
   pub budget : ℕ
   pub trace : ℕ  -- the bytes of the trace buffer
   pub shows : Shown
 
 -- budget and trace of the run-list program
-abbrev pub run-list : List ℕ → Shown → Row
-run-list file shows = record { file = file; budget = 100000; trace = 4096; shows = shows }
+abbrev pub run-list : {A : Type 0} → A → Shown → Row A
+run-list of shows = record { of = of; budget = 100000; trace = 4096; shows = shows }
 
 abbrev pub shows : ℕ → ℕ → ℕ → ℕ → List (List ℕ) → Shown
 shows number at cost bytes records = record { answer = record { number = number; at = at; cost = cost; bytes = bytes }; records = records }
@@ -142,12 +146,22 @@ changed kind user region = kind ∷ user ∷ region ∷ 0 ∷ 0 ∷ 0 ∷ 0 ∷ 
 unfoldable pub lent : ℤ → ℕ → ℕ → Memory
 lent z n trace = record { amounts = replicate 512 z; presence = replicate 8 n; labels = replicate 4096 n; trace = replicate trace n }
 
--- what a row's call shows, from the file's bytes
-unfoldable pub shown : ℤ → ℕ → Row → Shown
-shown z n row =
-    let r = call true (row .file) (row .budget) (lent z n (row .trace)) in
-    record { answer = values (r .answer); records = trace-records r }
+unfoldable pub shown : Result → Shown
+shown r = record { answer = values (r .answer); records = trace-records r }
 
--- each row's call shows what the row says, whatever lent memory was filled with
-abbrev pub Shows : List Row → Type 0
-Shows rows = (z : ℤ) (n : ℕ) → map (shown z n) rows ≡ map (λ row. row .shows) rows
+-- what a row's call shows, from the file's bytes
+unfoldable pub called : ℤ → ℕ → Row (List ℕ) → Shown
+called z n row = shown (call true (row .of) (row .budget) (lent z n (row .trace)))
+
+-- a book's run, if its records are accepted
+unfoldable pub book-answered : Book → ℕ → Memory → Verdict → Result
+book-answered b budget m (verdicts.Refused number index) = record { answer = Refused number index; memory = m }
+book-answered b budget m verdicts.Accepted = result-of budget m (run-book true b budget (length (m .trace) / 8))
+
+-- what that shows
+unfoldable pub ran : ℤ → ℕ → Row Book → Shown
+ran z n row = shown (book-answered (row .of) (row .budget) (lent z n (row .trace)) (book-verdict (row .of)))
+
+-- each row shows what it says, whatever lent memory was filled with
+abbrev pub Shows : {A : Type 0} → (ℤ → ℕ → Row A → Shown) → List (Row A) → Type 0
+Shows {A} given rows = (z : ℤ) (n : ℕ) → map (given z n) rows ≡ map (λ (row : Row A). row .shows) rows
