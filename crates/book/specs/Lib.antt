@@ -1,4 +1,4 @@
-pub mod Bytes
+pub use Rattle.numbers.specs.Bytes
 pub mod Records
 pub mod Layout
 pub mod Kinds

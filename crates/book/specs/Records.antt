@@ -4,7 +4,7 @@ use mathlib.Core.List.{List, [], _∷_, _++_}
 use Prim.Native.Nat.{ℕ, zero, suc, _+_}
 use lib.IntN.{ℤ}
 use Rattle.places.specs.Places.{place}
-use Rattle.places.specs.declared.Region.{Region}
+use Rattle.regions.specs.declared.Region.{Region}
 use Rattle.book.specs.Bytes.{byte, le16, le24, le32, signed32, bits32, two, three, four}
 
 -- how the records of a section are laid out: how many at most, the bytes of each, and both directions

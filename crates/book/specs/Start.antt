@@ -7,8 +7,8 @@ use lib.Dec.{eqb}
 use lib.IntN.{ℤ, pos}
 use lib.ListN.{getD}
 use Rattle.places.specs.Sets.{set-of}
-use Rattle.places.specs.Regions.{in-region}
-use Rattle.places.specs.Labels.{own-labels}
+use Rattle.regions.specs.Regions.{in-region}
+use Rattle.labels.specs.Labels.{own-labels}
 use Rattle.book.specs.Records.{CellRecord, RightRecord, Book, place-of, region-of}
 use Rattle.book.specs.Refusals.{no-region}
 

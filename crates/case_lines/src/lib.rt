@@ -89,7 +89,7 @@ fn digest_of_amounts(amounts: &[i32]) -> u32 {
     let mut sum: u32 = 1;
     let mut at: usize = 0;
     while at < amounts.len() {
-        sum = mixed(sum, book::bits_of(amounts[at]));
+        sum = mixed(sum, numbers::bits_of(amounts[at]));
         at += 1;
     }
     sum

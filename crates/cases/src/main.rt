@@ -70,12 +70,12 @@ fn case_in(
 ) -> bool
     requires { ⌜ length (now header) ≡ 20 ⌝ }
 {
-    let budget = book::u32_at(header, 4);
-    let trace_size = book::u32_at(header, 8) as usize;
-    let amount_count = book::u16_at(header, 12);
-    let presence_count = book::u16_at(header, 14);
-    let label_count = book::u16_at(header, 16);
-    let seed = book::u16_at(header, 18) as u32;
+    let budget = numbers::u32_at(header, 4);
+    let trace_size = numbers::u32_at(header, 8) as usize;
+    let amount_count = numbers::u16_at(header, 12);
+    let presence_count = numbers::u16_at(header, 14);
+    let label_count = numbers::u16_at(header, 16);
+    let seed = numbers::u16_at(header, 18) as u32;
     if amounts.len() < amount_count {
         return false;
     }
@@ -112,7 +112,7 @@ fn step(
     if !case_lines::read(&mut header) {
         return false;
     }
-    let size = book::u32_at(&header, 0) as usize;
+    let size = numbers::u32_at(&header, 0) as usize;
     if file.len() < size {
         return false;
     }

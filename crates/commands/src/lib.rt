@@ -244,7 +244,7 @@ fn sequence(
         (store (now (amounts .exit)) (now (presence .exit)) (now (labels .exit)) (now (read .exit)) (now (write .exit)) (now (trace .exit))) ⌝ }
 {
     let at = nodes + 16 * n;
-    let a = book::u16_at(file, at + 2);
+    let a = numbers::u16_at(file, at + 2);
     let first = exec(
         file,
         nodes,
@@ -269,7 +269,7 @@ fn sequence(
     let Outcome::Done = outcome else {
         return first;
     };
-    let b = book::u16_at(file, at + 4);
+    let b = numbers::u16_at(file, at + 4);
     exec(
         file,
         nodes,
@@ -324,7 +324,7 @@ fn branch(
         file,
         nodes,
         costs,
-        book::u16_at(file, at + 2),
+        numbers::u16_at(file, at + 2),
         left,
         vars,
         tags,
@@ -339,7 +339,7 @@ fn branch(
     let context = *ctx;
     let label = test.label;
     let inner = places::union(context, label);
-    let way = book::u16_at(file, at + chosen(value));
+    let way = numbers::u16_at(file, at + chosen(value));
     exec(
         file,
         nodes,
@@ -400,8 +400,8 @@ fn repeat(
         (store (now (amounts .exit)) (now (presence .exit)) (now (labels .exit)) (now (read .exit)) (now (write .exit)) (now (trace .exit))) ⌝ }
 {
     let at = nodes + 16 * n;
-    let a = book::u16_at(file, at + 2);
-    let b = book::u16_at(file, at + 4);
+    let a = numbers::u16_at(file, at + 2);
+    let b = numbers::u16_at(file, at + 4);
     let cost = costs[20];
     let mut inner = *ctx;
     let mut rest = left;
@@ -486,7 +486,7 @@ fn new_amount(
             file,
             nodes,
             costs,
-            book::u16_at(file, nodes + 16 * n + 6),
+            numbers::u16_at(file, nodes + 16 * n + 6),
             left,
             vars,
             tags,
@@ -535,7 +535,7 @@ fn post(
         file,
         nodes,
         costs,
-        book::u16_at(file, at + 2),
+        numbers::u16_at(file, at + 2),
         left,
         vars,
         tags,
@@ -551,7 +551,7 @@ fn post(
         file,
         nodes,
         costs,
-        book::u16_at(file, at + 4),
+        numbers::u16_at(file, at + 4),
         x.left,
         vars,
         tags,
@@ -586,7 +586,7 @@ fn post(
     let context = *ctx;
     let inner = places::union(context, key_label);
     let label = z.label;
-    let table = book::byte_at(file, at + 1);
+    let table = numbers::byte_at(file, at + 1);
     let posted = writes::post(
         n,
         &inner,
@@ -691,8 +691,8 @@ fn fire(
     let mut vars = own.values;
     let mut tags = own.tags;
     let at = triggers.start + 8 * t;
-    let user = book::byte_at(file, at + 2);
-    let body = book::u16_at(file, at + 4);
+    let user = numbers::byte_at(file, at + 2);
+    let body = numbers::u16_at(file, at + 4);
     let above = t + 1;
     let ran = exec(
         file,

@@ -37,7 +37,7 @@ fn put_cell(out: &mut [u8], at: usize, place: usize, amount: i32)
     out[at + 1] = (place / 8 % 8) as u8;
     out[at + 2] = (place % 8) as u8;
     out[at + 3] = 0;
-    let bits = book::bits_of(amount);
+    let bits = numbers::bits_of(amount);
     put_u32(out, at + 4, bits);
 }
 

@@ -8,7 +8,7 @@ use native.Mathlib.Omega.{arith}
 use lib.IntN.{ℤ, pos}
 use lib.ListN.{getD}
 use borrow.Author.Tests.{le-leb, lt-leb}
-use Rattle.places.specs.Labels.{label-at}
+use Rattle.labels.specs.Labels.{label-at}
 use Rattle.book.specs.Bytes.{byte, le16, le32, signed32}
 use Rattle.book.specs.Layout.{decode}
 use Rattle.book.specs.Kinds.{expression, between, cost-of, sort-of}

@@ -67,17 +67,17 @@ pub fn eval(
     }
     if kind == 1 {
         return Valued {
-            answer: Value::Known(book::i32_at(file, at + 10)),
+            answer: Value::Known(numbers::i32_at(file, at + 10)),
             left: left - cost,
             label: [0u64; 8],
         };
     }
     if kind == 2 {
-        let p = book::byte_at(file, at + 1);
+        let p = numbers::byte_at(file, at + 1);
         return Valued {
             answer: Value::Known(vars[p]),
             left: left - cost,
-            label: places::label_at(tags, p),
+            label: labels::label_at(tags, p),
         };
     }
     if kind < 7 {
@@ -131,7 +131,7 @@ fn pair(
         file,
         nodes,
         costs,
-        book::u16_at(file, at + 2),
+        numbers::u16_at(file, at + 2),
         left,
         vars,
         tags,
@@ -147,7 +147,7 @@ fn pair(
         file,
         nodes,
         costs,
-        book::u16_at(file, at + 4),
+        numbers::u16_at(file, at + 4),
         x.left,
         vars,
         tags,
@@ -191,7 +191,7 @@ fn query(
         file,
         nodes,
         costs,
-        book::u16_at(file, at + 2),
+        numbers::u16_at(file, at + 2),
         left,
         vars,
         tags,
@@ -207,7 +207,7 @@ fn query(
         file,
         nodes,
         costs,
-        book::u16_at(file, at + 4),
+        numbers::u16_at(file, at + 4),
         w.left,
         vars,
         tags,
@@ -223,7 +223,7 @@ fn query(
         file,
         nodes,
         costs,
-        book::u16_at(file, at + 6),
+        numbers::u16_at(file, at + 6),
         x.left,
         vars,
         tags,
@@ -239,7 +239,7 @@ fn query(
         file,
         nodes,
         costs,
-        book::u16_at(file, at + 8),
+        numbers::u16_at(file, at + 8),
         y.left,
         vars,
         tags,
@@ -261,7 +261,7 @@ fn query(
     );
     let found = queries::query(
         file[at],
-        book::byte_at(file, at + 1),
+        numbers::byte_at(file, at + 1),
         a,
         b,
         c,

@@ -28,9 +28,9 @@ fn mixed_sets(digest: u32, sets: [[u64; 8]; 8]) -> u32 {
 fn digest_of_rights(file: &[u8]) -> u32 {
     match reader::inspect(file) {
         book::Verdict::Accepted => {
-            let public = loader::public_set(file);
-            let read = loader::right_sets(file, 1);
-            let write = loader::right_sets(file, 2);
+            let public = rights::public_set(file);
+            let read = rights::right_sets(file, 1);
+            let write = rights::right_sets(file, 2);
             mixed_sets(mixed_sets(mixed_set(1, public), read), write)
         }
         book::Verdict::Refused(_, _) => 0,
@@ -134,11 +134,11 @@ fn case_in(
 ) -> bool
     requires { ⌜ length (now header) ≡ 16 ⌝ }
 {
-    let amount_count = book::u16_at(header, 4);
-    let presence_count = book::u16_at(header, 6);
-    let label_count = book::u16_at(header, 8);
-    let out_size = book::u16_at(header, 10);
-    let seed = book::u32_at(header, 12);
+    let amount_count = numbers::u16_at(header, 4);
+    let presence_count = numbers::u16_at(header, 6);
+    let label_count = numbers::u16_at(header, 8);
+    let out_size = numbers::u16_at(header, 10);
+    let seed = numbers::u32_at(header, 12);
     if amounts.len() < amount_count {
         return false;
     }
@@ -174,7 +174,7 @@ fn step(
     if !case_lines::read(&mut header) {
         return false;
     }
-    let size = book::u32_at(&header, 0) as usize;
+    let size = numbers::u32_at(&header, 0) as usize;
     if file.len() < size {
         return false;
     }

@@ -38,11 +38,11 @@ fn print_out(user: usize, bits: u32) {
 fn print_record(trace: &[u8], at: usize)
     requires { ⌜ at + 8 ≤ length (now trace) ⌝ }
 {
-    let kind = book::byte_at(trace, at);
-    let user = book::byte_at(trace, at + 1);
-    let region = book::byte_at(trace, at + 2);
+    let kind = numbers::byte_at(trace, at);
+    let user = numbers::byte_at(trace, at + 1);
+    let region = numbers::byte_at(trace, at + 2);
     match kind {
-        1 => print_out(user, book::u32_at(trace, at + 4)),
+        1 => print_out(user, numbers::u32_at(trace, at + 4)),
         2 => print_change(b"grant read", user, region),
         3 => print_change(b"grant write", user, region),
         4 => print_change(b"revoke read", user, region),

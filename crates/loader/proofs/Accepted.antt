@@ -1,18 +1,18 @@
--- What acceptance tells of the cells and rights that the code reads. Assumes nothing.
+-- What acceptance tells of the cells that the code reads. Assumes nothing.
 use mathlib.Core.Path.{_≡_}
 use mathlib.Core.List.{List}
 use mathlib.Core.Bool.{true}
 use Prim.Native.Nat.{ℕ, _+_, _*_, _≤_, _<_}
 use native.Mathlib.Omega.{arith}
-use lib.Dec.{leb, ltb}
-use lib.ListN.{length, getD}
-use borrow.Author.Tests.{leb-true, ltb-true, eqb-true, not-false}
-use Rattle.book.specs.Records.{CellRecord, RightRecord, place-of, cells-format, rights-format}
+use lib.Dec.{leb}
+use lib.ListN.{getD}
+use borrow.Author.Tests.{leb-true, eqb-true, not-false}
+use Rattle.book.specs.Records.{CellRecord, place-of, cells-format}
 use Rattle.book.specs.Layout.{count, section, decode}
-use Rattle.book.specs.Refusals.{cell-fits, no-cell, bad-cell, no-right, right-fits, bad-right, verdict}
+use Rattle.book.specs.Refusals.{cell-fits, no-cell, bad-cell, verdict}
 use Rattle.book.specs.declared.Verdict.the-variants.{Accepted}
 use Rattle.book.proofs.Chains.{both}
-use Rattle.book.proofs.Decoded.{count-regions, cell-read, right-read}
+use Rattle.book.proofs.Decoded.{cell-read}
 use Rattle.book.proofs.Accepted.{accepted}
 
 -- what the check of one cell record tells
@@ -37,10 +37,6 @@ cell-key {c} e =
 pub place-lt : {c : CellRecord} → Key c → place-of c < 512
 place-lt k = omega arith
 
--- record i of the rights
-abbrev pub right-at : List ℕ → ℕ → RightRecord
-right-at s i = rights-format .read s (section s 2 .start + i * 4)
-
 module _ (s : List ℕ) (v : verdict s ≡ Accepted) where
   -- the place of a record is one of the 512
   pub place-inside : (i : ℕ) → i < count s 0 → place-of (cells-format .read s (section s 0 .start + i * 8)) < 512
@@ -48,14 +44,3 @@ module _ (s : List ℕ) (v : verdict s ≡ Accepted) where
   place-inside i h =
       let e = both (cell-fits (getD (decode s .cells) i no-cell)) _ (not-false _ (accepted s v .cells-ok i h)) in
       place-lt (cell-key (rw (cell-read s i no-cell h) at (e .0)))
-
-  -- the region that a right names
-  pub region-exists : (i : ℕ) → i < count s 2 → right-at s i .region < count s 1
-  unfolding bad-right right-fits
-  region-exists i h =
-      let r : RightRecord = right-at s i in
-      let fits : right-fits (decode s) r ≡ true = rw (right-read s i no-right h) at (not-false (right-fits (decode s) (getD (decode s .rights) i no-right)) (accepted s v .rights-ok i h)) in
-      let kind = both (leb (r .kind) 2) _ fits in
-      let user = both (leb (r .user) _) _ (kind .1) in
-      let region = both (ltb (r .region) (length (decode s .regions))) _ (user .1) in
-      omega (arith, ltb-true (r .region) (length (decode s .regions)) (region .0), count-regions s)

@@ -5,8 +5,8 @@ use Prim.Native.Nat.{ℕ, _+_, _*_, _≤_, _<_}
 use native.Mathlib.Nat.{mul-comm}
 use native.Mathlib.Omega.{arith}
 use lib.ListN.{length}
-use Rattle.places.specs.Regions.{region-set}
-use Rattle.places.specs.declared.Region.{Region}
+use Rattle.regions.specs.Regions.{region-set}
+use Rattle.regions.specs.declared.Region.{Region}
 use Rattle.book.specs.Records.{region-of, regions-format}
 use Rattle.book.specs.Layout.{count, section}
 use Rattle.book.specs.Refusals.{no-region, verdict}

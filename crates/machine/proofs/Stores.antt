@@ -12,9 +12,9 @@ use lib.IntN.{ℤ, pos}
 use lib.ListN.{length, getD, set, take, length-append, length-drop, drop-of-length-le}
 use lib.Seq.{getD-set-same, getD-set-other, length-take-le}
 use Rattle.places.specs.Sets.{bit, has, single, union, without, difference}
-use Rattle.places.specs.Labels.{label-at, set-label}
+use Rattle.labels.specs.Labels.{label-at, set-label}
 use Rattle.places.proofs.Sets.{union-word, difference-word, has-union, has-difference, has-single}
-use Rattle.places.proofs.Labels.{label-same, label-other}
+use Rattle.labels.proofs.Labels.{label-same, label-other}
 use Rattle.monitor.specs.Labelled.{Label}
 use Rattle.monitor.specs.Run.{update}
 use Rattle.monitor.specs.Call.{cells-of}

@@ -4,7 +4,7 @@ use Prim.Native.Nat.{ℕ, _+_, _-_, _*_, _/_}
 use lib.Dec.{eqb}
 use lib.IntN.{ℤ, pos}
 use lib.ListN.{length, getD, take, drop}
-use Rattle.places.specs.Labels.{label-at}
+use Rattle.labels.specs.Labels.{label-at}
 use Rattle.monitor.specs.Labelled.{Lab}
 use Rattle.monitor.specs.Run.{Cell, Rights, State, Rec}
 use Rattle.monitor.specs.Call.{cells-of, rows, trace-bytes}

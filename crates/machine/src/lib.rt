@@ -52,7 +52,7 @@ pub fn region_places(file: &[u8], region: usize) -> [u64; 8]
     ensures { λ r. ⌜ r ≡ region-places (script-of (now (file .entry))) region ⌝ }
 {
     let regions = book::section_at(file, 1);
-    places::region_set(book::region_at(file, regions.start + 8 * region))
+    regions::region_set(book::region_at(file, regions.start + 8 * region))
 }
 
 // A command that is done.

@@ -12,7 +12,7 @@ use lib.ListN.{length, getD, take, drop, length-append, length-drop, drop-of-len
 use lib.Seq.{ext-getD, take-all, take-append-le, take-add, drop-at, drop-append-le}
 use borrow.Author.Tests.{lt-ltb}
 use Rattle.places.specs.Sets.{Words, has, set-of}
-use Rattle.places.specs.Labels.{label-at}
+use Rattle.labels.specs.Labels.{label-at}
 use Rattle.places.proofs.Sets.{within-antisym, has-below, has-set-of, within-members, length-set-of, words-set-of}
 use Rattle.book.specs.Start.{tabulate}
 use Rattle.monitor.specs.Labelled.{Lab}

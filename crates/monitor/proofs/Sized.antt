@@ -13,7 +13,7 @@ use lib.IntN.{ℤ, pos}
 use lib.ListN.{length, getD}
 use Rattle.places.specs.Sets.{union}
 use Rattle.places.proofs.Sets.{length-word-by-word, length-single}
-use Rattle.places.proofs.Shapes.{length-region}
+use Rattle.regions.proofs.Regions.{length-region}
 use Rattle.book.specs.Records.{Book, region-of}
 use Rattle.book.specs.Kinds.{between}
 use Rattle.book.specs.Refusals.{no-region, is-zero}

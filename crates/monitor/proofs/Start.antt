@@ -13,7 +13,7 @@ use borrow.Author.Tests.{lt-ltb, le-ltb}
 use Rattle.places.specs.Sets.{empty, set-of, single}
 use Rattle.places.proofs.Sets.{has-set-of, length-set-of, words-set-of}
 use Rattle.places.proofs.Shapes.{single-word}
-use Rattle.places.proofs.Labels.{length-own, label-own}
+use Rattle.labels.proofs.Labels.{length-own, label-own}
 use Rattle.book.specs.Records.{RightRecord, Book}
 use Rattle.book.specs.Start.{amount-at, or-zero, is-there, start-amounts, start-presence, start-labels, rights-hold, right-set, public-set, tabulate}
 use Rattle.monitor.specs.Labelled.{Label, Lab}

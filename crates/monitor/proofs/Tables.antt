@@ -7,7 +7,7 @@ use Prim.Native.Nat.{ℕ, _/_}
 use lib.IntN.{ℤ, pos}
 use lib.ListN.{length}
 use Rattle.places.specs.Sets.{has, word-of, set-of, word-by-word, union, difference, within}
-use Rattle.places.specs.Regions.{in-region, region-set}
+use Rattle.regions.specs.Regions.{in-region, region-set}
 use Rattle.book.specs.Records.{records, section-bytes, cells-format, regions-format, rights-format, nodes-format, programs-format, triggers-format, Book}
 use Rattle.book.specs.Layout.{in-order, bounds, decode}
 use Rattle.book.specs.Kinds.{cost-of, sort-of, fields-of}

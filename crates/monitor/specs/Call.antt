@@ -6,7 +6,7 @@ use lib.Dec.{eqb, leb}
 use lib.IntN.{ℤ, pos}
 use lib.ListN.{length, getD, drop}
 use Rattle.places.specs.Sets.{has, set-of}
-use Rattle.places.specs.Labels.{label-at}
+use Rattle.labels.specs.Labels.{label-at}
 use Rattle.book.specs.Bytes.{four, bits32}
 use Rattle.book.specs.Records.{Book}
 use Rattle.book.specs.Layout.{decode}

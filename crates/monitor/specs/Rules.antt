@@ -10,7 +10,7 @@ use lib.ListN.{length, getD}
 use lib.Signed.{ltZ, leZ, mag}
 use Rattle.places.specs.Places.{place, owner-of, line-of}
 use Rattle.places.specs.Sets.{has, union, difference}
-use Rattle.places.specs.Regions.{region-set}
+use Rattle.regions.specs.Regions.{region-set}
 use Rattle.book.specs.Records.{Book, TriggerRecord, ProgramRecord, region-of}
 use Rattle.book.specs.Kinds.{cost-of}
 use Rattle.book.specs.Refusals.{no-region, no-trigger, node-at, is-zero}

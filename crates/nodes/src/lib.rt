@@ -50,7 +50,7 @@ fn constant_fits(file: &[u8], at: usize, role: u8) -> bool
     if role == kinds::CONSTANT {
         return true;
     }
-    book::u32_at(file, at) == 0
+    numbers::u32_at(file, at) == 0
 }
 
 // Whether node `n` is of a kind that there is, and each of its fields is as its kind says.
@@ -67,22 +67,50 @@ fn node_fits(file: &[u8], nodes: book::Section, regions: usize, n: usize) -> boo
     if !field_fits(file, nodes, regions, n, row.p, file[at + 1] as usize) {
         return false;
     }
-    if !field_fits(file, nodes, regions, n, row.a, book::u16_at(file, at + 2)) {
+    if !field_fits(
+        file,
+        nodes,
+        regions,
+        n,
+        row.a,
+        numbers::u16_at(file, at + 2),
+    ) {
         return false;
     }
-    if !field_fits(file, nodes, regions, n, row.b, book::u16_at(file, at + 4)) {
+    if !field_fits(
+        file,
+        nodes,
+        regions,
+        n,
+        row.b,
+        numbers::u16_at(file, at + 4),
+    ) {
         return false;
     }
-    if !field_fits(file, nodes, regions, n, row.c, book::u16_at(file, at + 6)) {
+    if !field_fits(
+        file,
+        nodes,
+        regions,
+        n,
+        row.c,
+        numbers::u16_at(file, at + 6),
+    ) {
         return false;
     }
-    if !field_fits(file, nodes, regions, n, row.d, book::u16_at(file, at + 8)) {
+    if !field_fits(
+        file,
+        nodes,
+        regions,
+        n,
+        row.d,
+        numbers::u16_at(file, at + 8),
+    ) {
         return false;
     }
     if !constant_fits(file, at + 10, row.k) {
         return false;
     }
-    book::u16_at(file, at + 14) == 0
+    numbers::u16_at(file, at + 14) == 0
 }
 
 // The first bad node, or their number if there is none.

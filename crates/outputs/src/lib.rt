@@ -107,7 +107,7 @@ pub fn out(
         file,
         nodes,
         costs,
-        book::u16_at(file, at + 2),
+        numbers::u16_at(file, at + 2),
         left,
         vars,
         tags,
@@ -119,7 +119,7 @@ pub fn out(
     let Value::Known(amount) = answer else {
         return machine::failed(answer, value.left, used);
     };
-    let user = book::byte_at(file, at + 1);
+    let user = numbers::byte_at(file, at + 1);
     let context = *ctx;
     let label = value.label;
     let everyone = *public;
@@ -133,7 +133,13 @@ pub fn out(
     if trace.len() < used + 8 {
         return machine::stopped(30, n, value.left, used);
     }
-    put_record(&mut trace[used..], 1, user as u8, 0, book::bits_of(amount));
+    put_record(
+        &mut trace[used..],
+        1,
+        user as u8,
+        0,
+        numbers::bits_of(amount),
+    );
     machine::finished(value.left, used + 8)
 }
 
@@ -149,8 +155,8 @@ fn alter(file: &[u8], at: usize, right: u8, sets: &mut [[u64; 8]; 8], rest: &mut
         ∷ byte (now (file .entry)) (at + 1) ∷ le16 (now (file .entry)) (at + 2) ∷ 0 ∷ four 0 ++ drop 8 (now (rest .entry)) ⌝ }
 {
     let kind = file[at];
-    let user = book::byte_at(file, at + 1);
-    let region = book::u16_at(file, at + 2);
+    let user = numbers::byte_at(file, at + 1);
+    let region = numbers::u16_at(file, at + 2);
     put_record(rest, record_kind(kind, right), user as u8, region as u8, 0);
     let old = *sets;
     let next = changed(kind, old, user, machine::region_places(file, region));

@@ -3,5 +3,4 @@ pub mod Bits
 pub mod Sets
 pub mod Counting
 pub mod Shapes
-pub mod Labels
 pub mod Loops

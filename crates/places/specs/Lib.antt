@@ -1,4 +1,2 @@
 pub mod Places
 pub mod Sets
-pub mod Regions
-pub mod Labels

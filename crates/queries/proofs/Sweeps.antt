@@ -11,7 +11,7 @@ use lib.ListN.{getD}
 use lib.Signed.{mag}
 use borrow.Author.Tests.{eq-eqb, ne-eqb}
 use Rattle.places.specs.Sets.{has, union}
-use Rattle.places.specs.Labels.{label-at}
+use Rattle.labels.specs.Labels.{label-at}
 use Rattle.monitor.specs.Labelled.{Label, bottom, Lab}
 use Rattle.monitor.specs.Run.{Cell}
 use Rattle.monitor.specs.Rules.{in-box}

@@ -120,7 +120,7 @@ pub fn query(
         while line < end_line {
             let bit = 8 * owner + line;
             let place = 64 * table + bit;
-            let next = places::union(label, places::label_at(labels, place));
+            let next = places::union(label, labels::label_at(labels, place));
             label = next;
             if (present >> bit) % 2 == 1 {
                 let more = counted(tally, amounts[place]);

@@ -42,16 +42,16 @@ fn reaches(file: &[u8], nodes: book::Section, flags: &[bool; 1024], n: usize) ->
         return true;
     }
     let row = kinds::row_of(kind);
-    if flagged_child(flags, row.a, book::u16_at(file, at + 2)) {
+    if flagged_child(flags, row.a, numbers::u16_at(file, at + 2)) {
         return true;
     }
-    if flagged_child(flags, row.b, book::u16_at(file, at + 4)) {
+    if flagged_child(flags, row.b, numbers::u16_at(file, at + 4)) {
         return true;
     }
-    if flagged_child(flags, row.c, book::u16_at(file, at + 6)) {
+    if flagged_child(flags, row.c, numbers::u16_at(file, at + 6)) {
         return true;
     }
-    flagged_child(flags, row.d, book::u16_at(file, at + 8))
+    flagged_child(flags, row.d, numbers::u16_at(file, at + 8))
 }
 
 // For each node, whether it reaches a forbidden kind: one pass, as children have lower numbers.

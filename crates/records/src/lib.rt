@@ -13,16 +13,16 @@ fn cell_fits(file: &[u8], at: usize) -> bool
     requires { ⌜ at + 8 ≤ length (now file) ⌝ }
     ensures { λ r. ⌜ r ≡ cell-fits (cells-format .read (now (file .entry)) at) ⌝ }
 {
-    if 7 < book::byte_at(file, at) {
+    if 7 < numbers::byte_at(file, at) {
         return false;
     }
-    if 7 < book::byte_at(file, at + 1) {
+    if 7 < numbers::byte_at(file, at + 1) {
         return false;
     }
-    if 7 < book::byte_at(file, at + 2) {
+    if 7 < numbers::byte_at(file, at + 2) {
         return false;
     }
-    book::byte_at(file, at + 3) == 0
+    numbers::byte_at(file, at + 3) == 0
 }
 
 // Refusal 5: the first bad cell record, or the number of cells; `least` is the least place that the next record may have.
@@ -51,7 +51,7 @@ pub fn first_bad_cell(file: &[u8]) -> usize
 }
 
 // Whether first ≤ last ≤ 7.
-fn range_fits(range: places::Range) -> bool
+fn range_fits(range: regions::Range) -> bool
     ensures { λ r. ⌜ r ≡ leb (range .first) (range .last) && leb (range .last) 7 ⌝ }
 {
     let first = range.first;
@@ -80,7 +80,7 @@ fn region_fits(file: &[u8], at: usize) -> bool
     if !range_fits(lines) {
         return false;
     }
-    book::u24_at(file, at + 5) == 0
+    numbers::u24_at(file, at + 5) == 0
 }
 
 // Refusal 6: the first bad region record, or the number of regions.
@@ -113,17 +113,17 @@ fn right_fits(file: &[u8], at: usize, regions: usize) -> bool
     requires { ⌜ (at + 4 ≤ length (now file)) × (regions ≡ count (now file) 1) ⌝ }
     ensures { λ r. ⌜ r ≡ right-fits (decode (now (file .entry))) (rights-format .read (now (file .entry)) at) ⌝ }
 {
-    let kind = book::byte_at(file, at);
+    let kind = numbers::byte_at(file, at);
     if 2 < kind {
         return false;
     }
-    if last_user(kind) < book::byte_at(file, at + 1) {
+    if last_user(kind) < numbers::byte_at(file, at + 1) {
         return false;
     }
-    if regions <= book::byte_at(file, at + 2) {
+    if regions <= numbers::byte_at(file, at + 2) {
         return false;
     }
-    book::byte_at(file, at + 3) == 0
+    numbers::byte_at(file, at + 3) == 0
 }
 
 // Refusal 7: the first bad right record, or the number of rights.

@@ -37,8 +37,8 @@ fn program(
         (store (now (amounts .exit)) (now (presence .exit)) (now (labels .exit)) (now (read .exit)) (now (write .exit)) (now (trace .exit))) ⌝ }
 {
     let at = book::section_at(file, 4).start + 4 * i;
-    let user = book::byte_at(file, at);
-    let root = book::u16_at(file, at + 2);
+    let user = numbers::byte_at(file, at);
+    let root = numbers::u16_at(file, at + 2);
     let none = [0u64; 8];
     let mut vars = [0i32; 16];
     let mut tags = [0u64; 128];
@@ -153,9 +153,9 @@ fn started(
 {
     let nodes = book::section_at(file, 3).start;
     let costs = kinds::costs();
-    let public = loader::public_set(file);
-    let mut read = loader::right_sets(file, 1);
-    let mut write = loader::right_sets(file, 2);
+    let public = rights::public_set(file);
+    let mut read = rights::right_sets(file, 1);
+    let mut write = rights::right_sets(file, 2);
     let ran = programs(
         file,
         nodes,

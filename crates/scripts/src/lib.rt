@@ -29,7 +29,7 @@ fn program_fits(file: &[u8], nodes: book::Section, at: usize) -> bool
     if file[at + 1] != 0 {
         return false;
     }
-    is_command(file, nodes, book::u16_at(file, at + 2))
+    is_command(file, nodes, numbers::u16_at(file, at + 2))
 }
 
 // The first bad program, or their number if there is none.
@@ -77,11 +77,11 @@ fn trigger_fits(
     if file[at + 3] != 0 {
         return false;
     }
-    let body = book::u16_at(file, at + 4);
+    let body = numbers::u16_at(file, at + 4);
     if !is_command(file, nodes, body) {
         return false;
     }
-    if book::u16_at(file, at + 6) != 0 {
+    if numbers::u16_at(file, at + 6) != 0 {
         return false;
     }
     !flags[body]

@@ -15,7 +15,7 @@ pub fn length_fits(file: &[u8]) -> bool
     if 60000 < length {
         return false;
     }
-    book::u32_at(file, length - 4) as usize == length
+    numbers::u32_at(file, length - 4) as usize == length
 }
 
 // Whether the four bytes at `at` are those of `mark`.
@@ -44,10 +44,10 @@ pub fn mark_fits(file: &[u8]) -> bool
     if !same4(file, trailer, b"BKWS") {
         return false;
     }
-    if book::byte_at(file, trailer + 4) != 1 {
+    if numbers::byte_at(file, trailer + 4) != 1 {
         return false;
     }
-    book::u24_at(file, trailer + 5) == 0
+    numbers::u24_at(file, trailer + 5) == 0
 }
 
 // The most records of each section, and the bytes of each record.
@@ -65,10 +65,10 @@ pub fn sections_fit(file: &[u8]) -> bool
     let mut pair: usize = 0;
     while pair < 6 {
         let at = length - 28 + 4 * pair;
-        if book::u16_at(file, at) + end != length {
+        if numbers::u16_at(file, at) + end != length {
             return false;
         }
-        let count = book::u16_at(file, at + 2);
+        let count = numbers::u16_at(file, at + 2);
         if MOST[pair] < count {
             return false;
         }

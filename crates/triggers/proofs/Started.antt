@@ -10,8 +10,8 @@ use lib.Dec.{ltb, lit<}
 use lib.IntN.{ℤ, pos}
 use lib.ListN.{length, getD, set, replicate}
 use Rattle.places.specs.Sets.{union}
-use Rattle.places.specs.Labels.{label-at, set-label}
-use Rattle.places.proofs.Labels.{label-same, label-other}
+use Rattle.labels.specs.Labels.{label-at, set-label}
+use Rattle.labels.proofs.Labels.{label-same, label-other}
 use Rattle.monitor.specs.Labelled.{Label, Lab, lift, under}
 use Rattle.monitor.specs.Run.{update, sixteen}
 use Rattle.monitor.specs.Rules.{trigger-vars}

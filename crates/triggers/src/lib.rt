@@ -19,7 +19,7 @@ pub fn fits(file: &[u8], t: usize, event: u8, place: usize) -> bool
     if file[at + 1] != event {
         return false;
     }
-    let region = machine::region_places(file, book::byte_at(file, at));
+    let region = machine::region_places(file, numbers::byte_at(file, at));
     places::contains(region, place)
 }
 
@@ -43,9 +43,9 @@ pub fn variables(
     let mut tags = [0u64; 128];
     let mut p: usize = 0;
     while p < 16 {
-        places::set_label(&mut tags, p, context);
+        labels::set_label(&mut tags, p, context);
         p += 1;
     }
-    places::set_label(&mut tags, 2, places::union(context, added));
+    labels::set_label(&mut tags, 2, places::union(context, added));
     Variables { values, tags }
 }

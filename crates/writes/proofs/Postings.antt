@@ -7,7 +7,7 @@ use native.Mathlib.Omega.{arith}
 use borrow.Author.Tests.{not-true, not-false}
 use lib.IntN.{ℤ}
 use Rattle.places.specs.Sets.{has, union, difference, within}
-use Rattle.places.specs.Labels.{label-at}
+use Rattle.labels.specs.Labels.{label-at}
 use Rattle.monitor.specs.Labelled.{Label, bottom, Lab, under}
 use Rattle.monitor.specs.Run.{Cell, Rights, State, done, M, _>>=_, _>>_, look, plainly, inside, need, update, with-cells, set-cell}
 use Rattle.monitor.specs.Rules.{Key, key-place, in-table}

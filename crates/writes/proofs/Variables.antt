@@ -8,7 +8,7 @@ use native.Mathlib.Nat.{le-refl}
 use lib.IntN.{ℤ}
 use lib.ListN.{length}
 use Rattle.places.specs.Sets.{union, difference, within}
-use Rattle.places.specs.Labels.{label-at, set-label}
+use Rattle.labels.specs.Labels.{label-at, set-label}
 use Rattle.book.specs.Records.{NodeRecord}
 use Rattle.book.specs.Layout.{decode}
 use Rattle.book.specs.Refusals.{node-at}

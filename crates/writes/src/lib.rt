@@ -75,7 +75,7 @@ fn store_cell(
     let one = places::single(place);
     let next = marked(event, presence[word], one[word]);
     presence[word] = next;
-    places::set_label(labels, place, label);
+    labels::set_label(labels, place, label);
 }
 
 // Variable `p` becomes an amount with a label.
@@ -85,7 +85,7 @@ fn store_variable(vars: &mut [i32], tags: &mut [u64], p: usize, amount: i32, lab
         ≡ update (vars-of (now (vars .entry)) (now (tags .entry))) p (record { val = amount; lab = label }) ⌝ }
 {
     vars[p] = amount;
-    places::set_label(tags, p, label);
+    labels::set_label(tags, p, label);
 }
 
 // 17: variable p becomes a. Stop 25 where the context is not within the variable's old label.
@@ -113,7 +113,7 @@ pub fn assign(
         file,
         nodes,
         costs,
-        book::u16_at(file, at + 2),
+        numbers::u16_at(file, at + 2),
         left,
         vars,
         tags,
@@ -126,9 +126,9 @@ pub fn assign(
         return machine::failed(answer, value.left, used);
     };
     let label = value.label;
-    let p = book::byte_at(file, at + 1);
+    let p = numbers::byte_at(file, at + 1);
     let context = *ctx;
-    let old = places::label_at(tags, p);
+    let old = labels::label_at(tags, p);
     let fine = places::within(context, old);
     if !fine {
         return machine::stopped(25, n, value.left, used);
@@ -154,15 +154,15 @@ pub fn raise(
         (vars-of (now (vars .entry)) (now (tags .entry))) r (vars-of (now (vars .entry)) (now (tags .exit))) ⌝ }
 {
     let at = nodes + 16 * n;
-    let p = book::byte_at(file, at + 1);
+    let p = numbers::byte_at(file, at + 1);
     let context = *ctx;
-    let old = places::label_at(tags, p);
+    let old = labels::label_at(tags, p);
     let inside = places::within(context, old);
     if !inside {
         return machine::stopped(25, n, left, used);
     }
-    let region = machine::region_places(file, book::u16_at(file, at + 2));
-    places::set_label(tags, p, places::union(old, region));
+    let region = machine::region_places(file, numbers::u16_at(file, at + 2));
+    labels::set_label(tags, p, places::union(old, region));
     machine::finished(left, used)
 }
 
@@ -197,7 +197,7 @@ pub fn post(
         return Posted::Stopped(24, n);
     }
     let context = *ctx;
-    let fine = places::within(context, places::label_at(labels, place));
+    let fine = places::within(context, labels::label_at(labels, place));
     if !fine {
         return Posted::Stopped(26, n);
     }

@@ -8,7 +8,7 @@ use Rattle.book.specs.Start.{tabulate}
 use Rattle.book.proofs.Tabulate.{length-tabulate, tabulate-at}
 use borrow.Author.Needs.{needs}
 use native.Mathlib.Omega.{arith}
-use Rattle.loader.proofs.Fills.{fill-turn, fill-end}
+use Rattle.places.proofs.Loops.{fill-turn, fill-end}
 use Rattle.loader.proofs.clear.Statement.{statement}
 use Rattle.loader.proofs.clear.Tie as tie
 

@@ -5,7 +5,7 @@ use Prim.Native.Nat.{_≤_, _-_}
 use lib.ListN.{length, take, drop, length-set}
 use borrow.Author.Needs.{needs}
 use native.Mathlib.Omega.{arith}
-use Rattle.loader.proofs.Fills.{fill-turn, fill-end}
+use Rattle.places.proofs.Loops.{fill-turn, fill-end}
 use Rattle.loader.proofs.store_set.Statement.{statement}
 use Rattle.loader.proofs.store_set.Tie as tie
 

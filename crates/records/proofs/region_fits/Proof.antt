@@ -5,8 +5,8 @@ use mathlib.Core.List.{List}
 use Prim.Native.Nat.{ℕ, _+_, _≤_, _<_}
 use lib.Dec.{eqb, leb}
 use borrow.Author.Tests.{le-leb, lt-leb, not-true, not-false}
-use Rattle.places.specs.declared.Range.{Range}
-use Rattle.places.specs.declared.Region.{Region}
+use Rattle.regions.specs.declared.Range.{Range}
+use Rattle.regions.specs.declared.Region.{Region}
 use Rattle.book.specs.Bytes.{le24}
 use Rattle.book.specs.Records.{regions-format}
 use Rattle.book.specs.Refusals.{region-fits}

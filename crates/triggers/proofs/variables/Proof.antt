@@ -5,7 +5,7 @@ use native.Mathlib.Omega.{arith}
 use borrow.Author.Needs.{needs}
 use native.Mathlib.Nat.{not-suc-le-zero}
 use mir.Facts.{toZ-ofZ}
-use Rattle.places.specs.Labels.{set-label}
+use Rattle.labels.specs.Labels.{set-label}
 use Rattle.triggers.proofs.Started.{Tagged, label-turn, started}
 use Rattle.triggers.proofs.variables.Statement.{statement}
 use Rattle.triggers.proofs.variables.Tie as tie

@@ -5,7 +5,7 @@ use Prim.Native.Nat.{_≤_, _-_}
 use lib.ListN.{take, drop}
 use borrow.Author.Needs.{needs}
 use native.Mathlib.Omega.{arith}
-use Rattle.loader.proofs.Fills.{fill-turn, fill-end}
+use Rattle.places.proofs.Loops.{fill-turn, fill-end}
 use Rattle.writer.proofs.set_in.Statement.{statement}
 use Rattle.writer.proofs.set_in.Tie as tie
 

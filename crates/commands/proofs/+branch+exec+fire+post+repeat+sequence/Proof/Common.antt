@@ -22,9 +22,9 @@ use Rattle.commands.proofs.+branch+exec+fire+post+repeat+sequence.Lts-r
 use Rattle.commands.proofs.sequence.Reads as sequence
 use Rattle.commands.proofs.sequence.Kinds as sequence-kinds
 use Rattle.commands.proofs.+branch+exec+fire+post+repeat+sequence.Lts-sequence as sequence-lts
-use Rattle.book.proofs.byte_at.Reads as byte-at-reads
+use Rattle.numbers.proofs.byte_at.Reads as byte-at-reads
 use Rattle.book.proofs.section_at.Reads as section-at-reads
-use Rattle.book.proofs.u16_at.Reads as u16-at-reads
+use Rattle.numbers.proofs.u16_at.Reads as u16-at-reads
 use Rattle.commands.proofs.chosen.Reads as chosen-reads
 use Rattle.commands.proofs.new_amount.Reads as new-amount-reads
 use Rattle.expressions.proofs.eval.Reads as eval-reads

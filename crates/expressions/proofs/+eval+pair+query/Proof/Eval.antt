@@ -20,9 +20,9 @@ use Rattle.expressions.proofs.eval.Reads as eval
 use Rattle.expressions.proofs.pair.Reads as pair
 use Rattle.expressions.proofs.query.Reads as query
 use Rattle.expressions.proofs.+eval+pair+query.Lts-eval as eval-lts
-use Rattle.book.proofs.byte_at.Reads as byte-at-reads
-use Rattle.book.proofs.i32_at.Reads as i32-at-reads
-use Rattle.places.proofs.label_at.Reads as label-at-reads
+use Rattle.numbers.proofs.byte_at.Reads as byte-at-reads
+use Rattle.numbers.proofs.i32_at.Reads as i32-at-reads
+use Rattle.labels.proofs.label_at.Reads as label-at-reads
 use Rattle.expressions.proofs.+eval+pair+query.Proof.Common.{eval-at, pair-below, query-below}
 
 abbrev pub eval-cs : ℕ → eval-lts.Claims

@@ -23,7 +23,7 @@ use Rattle.expressions.proofs.Entries.{read, pair-first, pair-second}
 use Rattle.expressions.proofs.eval.Reads as eval
 use Rattle.expressions.proofs.pair.Reads as pair
 use Rattle.expressions.proofs.+eval+pair+query.Lts-pair as pair-lts
-use Rattle.book.proofs.u16_at.Reads as u16-at-reads
+use Rattle.numbers.proofs.u16_at.Reads as u16-at-reads
 use Rattle.expressions.proofs.combined.Reads as combined-reads
 use Rattle.expressions.proofs.ranged.Reads as ranged-reads
 use Rattle.places.proofs.union.Reads as union-reads

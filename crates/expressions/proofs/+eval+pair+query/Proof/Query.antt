@@ -23,8 +23,8 @@ use Rattle.expressions.proofs.Entries.{read, query-table, query-first, 
 use Rattle.expressions.proofs.eval.Reads as eval
 use Rattle.expressions.proofs.query.Reads as query
 use Rattle.expressions.proofs.+eval+pair+query.Lts-query as query-lts
-use Rattle.book.proofs.byte_at.Reads as byte-at-reads
-use Rattle.book.proofs.u16_at.Reads as u16-at-reads
+use Rattle.numbers.proofs.byte_at.Reads as byte-at-reads
+use Rattle.numbers.proofs.u16_at.Reads as u16-at-reads
 use Rattle.expressions.proofs.ranged.Reads as ranged-reads
 use Rattle.places.proofs.union.Reads as union-reads
 use Rattle.queries.proofs.query.Reads as query-reads

@@ -1,0 +1,44 @@
+// The labels of the 512 cells, and those of variables, in lent memory: the label of cell p is the eight words from 8 * p on.
+ghost use mathlib.Core.Path.{_≡_};
+ghost use Prim.Native.Nat.{_+_, _*_, _≤_};
+ghost use lib.ListN.{length};
+ghost use Rattle.labels.specs.Labels.{label-at, set-label, own-labels};
+
+// The label of cell `place`, or of a variable where the words are those of variables.
+pub fn label_at(labels: &[u64], place: usize) -> [u64; 8]
+    requires { ⌜ 8 * place + 8 ≤ length (now labels) ⌝ }
+    ensures { λ r. ⌜ r ≡ label-at (now (labels .entry)) place ⌝ }
+{
+    let mut label = [0u64; 8];
+    let mut offset: usize = 0;
+    while offset < 8 {
+        label[offset] = labels[8 * place + offset];
+        offset += 1;
+    }
+    label
+}
+
+// Makes `label` the label of cell or variable `place`; the other labels stay.
+pub fn set_label(labels: &mut [u64], place: usize, label: [u64; 8])
+    requires { ⌜ 8 * place + 8 ≤ length (now labels) ⌝ }
+    ensures { λ _. ⌜ now (labels .exit) ≡ set-label (now (labels .entry)) place label ⌝ }
+{
+    let mut offset: usize = 0;
+    while offset < 8 {
+        labels[8 * place + offset] = label[offset];
+        offset += 1;
+    }
+}
+
+// Makes each cell's label its own place alone, as it is at the start of a run.
+pub fn own_labels(labels: &mut [u64])
+    requires { ⌜ length (now labels) ≡ 4096 ⌝ }
+    ensures { λ _. ⌜ now (labels .exit) ≡ own-labels 512 ⌝ }
+{
+    let mut place: usize = 0;
+    while place < 512 {
+        let own = places::single(place);
+        set_label(labels, place, own);
+        place += 1;
+    }
+}
