@@ -50,7 +50,7 @@ pub fn exec(
     }
     let rest = left - cost;
     match kind {
-        17 => writes::assign(
+        17 => assignments::assign(
             file,
             nodes,
             costs,
@@ -183,7 +183,7 @@ pub fn exec(
             trace,
             used,
         ),
-        24 => outputs::change(
+        24 => grants::change(
             file,
             nodes,
             costs,
@@ -197,7 +197,7 @@ pub fn exec(
             trace,
             used,
         ),
-        25 => outputs::change(
+        25 => grants::change(
             file,
             nodes,
             costs,
@@ -211,7 +211,7 @@ pub fn exec(
             trace,
             used,
         ),
-        26 => writes::raise(file, nodes, costs, n, rest, ctx, vars, tags, used),
+        26 => assignments::raise(file, nodes, costs, n, rest, ctx, vars, tags, used),
         _ => machine::finished(rest, used),
     }
 }
@@ -587,7 +587,7 @@ fn post(
     let inner = places::union(context, key_label);
     let label = z.label;
     let table = numbers::byte_at(file, at + 1);
-    let posted = writes::post(
+    let posted = postings::post(
         n,
         &inner,
         user,

@@ -2,7 +2,7 @@
 -- Assumes nothing.
 use mathlib.Core.Path.{_≡_, refl, sym, ap, _∙_}
 use mathlib.Core.List.{List}
-use mathlib.Core.Bool.{Bool, true, false, not, _&&_, false≢true}
+use mathlib.Core.Bool.{true, false, not, _&&_, false≢true, and-false}
 use Prim.Native.Nat.{ℕ, _+_, _*_, _≤_, _<_}
 use native.Mathlib.Nat.{mul-comm}
 use native.Mathlib.Decide.{decLt, ℕ-discrete}
@@ -57,10 +57,6 @@ pub record Checked (file : List ℕ) (n : ℕ) (u : Fields) : Type 0 where
 
 no-sort : (k : ℕ) → sort-of k ≡ no-kind → not (eqb (sort-of k) no-kind) ≡ true → ⊥
 no-sort k e t = false≢true (sym (ap (λ (m : ℕ). not (eqb m no-kind)) e) ∙ t)
-
-and-false : (x : Bool) → x && false ≡ false
-and-false true = refl
-and-false false = refl
 
 -- a kind beyond the table is none
 beyond : (k : ℕ) → 27 ≤ k → sort-of k ≡ no-kind

@@ -1,4 +1,1 @@
-pub mod Changes
 pub mod Outs
-pub mod Records
-pub mod Rows

@@ -31,7 +31,7 @@ use Rattle.machine.specs.declared.Outcome.the-variants.{Done, Stopped}
 use Rattle.machine.specs.declared.Ran.{Ran}
 use Rattle.machine.proofs.Nodes.{script-node, Read, read-at, out-p, out-a}
 use Rattle.machine.proofs.Runs.{next-look, need-holds, need-fails, comes-to, does-as, quietly, value-stops, value-goes}
-use Rattle.outputs.proofs.Records.{tell-full, tell-writes}
+use Rattle.traces.proofs.Records.{tell-full, tell-writes}
 
 -- ---- what the code reads and tests
 

@@ -1,7 +1,7 @@
 -- What a call gives where loading answered, and where refusal 1 is about the budget or the trace. Assumes nothing.
 use mathlib.Core.Path.{_≡_, refl, sym, ap, _∙_}
 use mathlib.Core.List.{List}
-use mathlib.Core.Bool.{Bool, true, false, _&&_}
+use mathlib.Core.Bool.{true, and-false, and-true}
 use Prim.Native.Nat.{ℕ, _/_, _≤_, _<_}
 use lib.Dec.{eqb, leb}
 use lib.IntN.{ℤ}
@@ -17,15 +17,8 @@ use Rattle.loader.proofs.Calls.{loaded}
 use Rattle.monitor.specs.Run.{Out, done, stop}
 use Rattle.monitor.specs.Call.{Memory, Result, run-book, call-verdict, memory-after, result-of, answered, call}
 use Rattle.monitor.specs.declared.Answer.the-variants.{Refused}
-use Rattle.runner.specs.Entry.{lent, result, Loaded}
-
-and-false : (x : Bool) → x && false ≡ false
-and-false true = refl
-and-false false = refl
-
-and-true : (x : Bool) → x && true ≡ x
-and-true true = refl
-and-true false = refl
+use Rattle.entry.specs.Entry.{lent, result}
+use Rattle.runner.specs.Start.{Loaded}
 
 -- what a call leaves does not depend on the amounts, presence and labels that it found
 same-result : (budget : ℕ) (m m' : Memory) (o : Out (Unit {0})) → m .trace ≡ m' .trace → result-of budget m o ≡ result-of budget m' o

@@ -1,4 +1,2 @@
-pub mod Sequence
-pub mod Results
 pub mod Calls
-pub mod Claims
+pub mod Results

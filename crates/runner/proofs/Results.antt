@@ -22,8 +22,9 @@ use Rattle.machine.specs.Promises.{ended, DoesAside}
 use Rattle.machine.specs.declared.Outcome.{Outcome}
 use Rattle.machine.specs.declared.Outcome.the-variants.{Done, Stopped}
 use Rattle.machine.specs.declared.Ran.{Ran}
-use Rattle.runner.specs.Programs.{Programs}
-use Rattle.runner.specs.Entry.{lent, result, Loaded, ended-as, answer-of}
+use Rattle.programs.specs.Programs.{Programs}
+use Rattle.entry.specs.Entry.{lent, result, ended-as, answer-of}
+use Rattle.runner.specs.Start.{Loaded}
 
 -- the end of a run as the result
 ended-result : (budget : ℕ) (m : Memory) (o : Outcome) (obstacle : Label) (records : List Rec) (s : State)

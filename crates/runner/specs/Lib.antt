@@ -1,3 +1,1 @@
-pub mod Entry
-pub mod Programs
-pub mod Claims
+pub mod Start

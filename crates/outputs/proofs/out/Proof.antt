@@ -14,7 +14,7 @@ use Rattle.monitor.specs.Labelled.{Lab}
 use Rattle.machine.specs.Store.{vars-of}
 use Rattle.machine.proofs.Nodes.{Read}
 use Rattle.outputs.proofs.Outs.{out-read, user-below, value-node, may-read, out-fails, out-hidden, out-full, out-tells}
-use Rattle.outputs.proofs.Records.{said-recorded}
+use Rattle.traces.proofs.Records.{said-recorded}
 use Rattle.outputs.proofs.out.Statement.{statement}
 use Rattle.outputs.proofs.out.Tie as tie
 

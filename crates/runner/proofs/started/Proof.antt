@@ -6,7 +6,7 @@ use Rattle.places.specs.Sets.{Words}
 use Rattle.book.specs.declared.Section.{Section}
 use Rattle.book.proofs.Accepted.{placed}
 use Rattle.monitor.specs.declared.Answer.{Answer}
-use Rattle.runner.specs.Entry.{lent, result}
+use Rattle.entry.specs.Entry.{lent, result}
 use Rattle.runner.proofs.Results.{start-lengths, end-sizes, run-gives}
 use Rattle.runner.proofs.started.Statement.{statement}
 use Rattle.runner.proofs.started.Tie as tie

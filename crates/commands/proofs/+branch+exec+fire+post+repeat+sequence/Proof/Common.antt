@@ -31,14 +31,14 @@ use Rattle.expressions.proofs.eval.Reads as eval-reads
 use Rattle.machine.proofs.failed.Reads as failed-reads
 use Rattle.machine.proofs.finished.Reads as finished-reads
 use Rattle.machine.proofs.stopped.Reads as stopped-reads
-use Rattle.outputs.proofs.change.Reads as change-reads
+use Rattle.grants.proofs.change.Reads as change-reads
 use Rattle.outputs.proofs.out.Reads as out-reads
 use Rattle.places.proofs.union.Reads as union-reads
 use Rattle.triggers.proofs.fits.Reads as fits-reads
 use Rattle.triggers.proofs.variables.Reads as variables-reads
-use Rattle.writes.proofs.assign.Reads as assign-reads
-use Rattle.writes.proofs.post.Reads as post-reads
-use Rattle.writes.proofs.raise.Reads as raise-reads
+use Rattle.assignments.proofs.assign.Reads as assign-reads
+use Rattle.postings.proofs.post.Reads as post-reads
+use Rattle.assignments.proofs.raise.Reads as raise-reads
 
 -- Each entry of a node costs at least 1, and counts 16: what stands between two entries counts less, and firing what is left of eight triggers.
 

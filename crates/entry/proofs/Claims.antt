@@ -1,0 +1,25 @@
+-- The claims about the entry, from those about the rules: what the entry ensures is that its calls are the rules' calls. Assumes nothing.
+use mathlib.Core.Path.{_≡_, sym, ap, _∙_}
+use mathlib.Core.List.{List}
+use mathlib.Core.Bool.{true}
+use Prim.Native.Nat.{ℕ}
+use Rattle.monitor.specs.Call.{Memory, Result, call}
+use Rattle.monitor.specs.TwoBooks.{Group, accepted, finished, reach, DifferOutside}
+use Rattle.monitor.specs.Claims.{LearnsNothing}
+use Rattle.monitor.proofs.NoLabels as rules
+use Rattle.monitor.proofs.Demand3 as two-calls
+use Rattle.entry.specs.Claims.{NoLabelsSame, Demand3}
+
+pub no-labels-same : NoLabelsSame
+no-labels-same file budget before after r e h = rules.no-labels-same file budget before (sym (ap (λ (x : Result). finished (x .answer)) e) ∙ h) ∙ sym e
+
+-- two results that are those of the rules' calls
+learns : (g : Group) (file file' : List ℕ) (budget budget' : ℕ) (m m' : Memory) {x y : Result}
+    → x ≡ call true file budget m → y ≡ call true file' budget' m'
+    → accepted (x .answer) ≡ true → accepted (y .answer) ≡ true → DifferOutside (reach g file x) file file'
+    → LearnsNothing g (reach g file x) x y
+learns g file file' budget budget' m m' e e' a a' d =
+    rw (e, e') (two-calls.demand3 g file file' budget budget' m m' (rw e at a) (rw e' at a') (rw e at d))
+
+pub demand3 : Demand3
+demand3 g file file' budget budget' before before' after after' r r' e e' a a' d = learns g file file' budget budget' before before' e e' a a' d

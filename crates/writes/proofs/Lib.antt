@@ -1,3 +1,0 @@
-pub mod Keys
-pub mod Postings
-pub mod Variables
