@@ -1,5 +1,44 @@
-//! What the cases for other implementations have in common: memory drawn from a
-//! seed, and digests of what is left in memory.
+//! What the cases for other implementations have in common: how they stand in a
+//! stream, memory drawn from a seed, and digests of what is left in memory.
+
+/// What to do with the file of a case, by its number in the stream.
+#[derive(Clone, Copy)]
+pub(crate) enum Task {
+    Run = 0,
+    LoadAndWrite = 1,
+}
+
+/// A case as it stands in a stream. What its task has no use for is 0.
+pub(crate) struct Entry<'a> {
+    pub(crate) file: &'a [u8],
+    pub(crate) budget: u32,
+    /// Length of the lent trace or output.
+    pub(crate) bytes: u32,
+    /// Lengths of the lent amounts, presence and labels.
+    pub(crate) cells: [u16; 3],
+    pub(crate) task: Task,
+    pub(crate) seed: u32,
+}
+
+impl Entry<'_> {
+    /// A header of 24 bytes and the file. The header is little-endian: the
+    /// file's length, the budget and the length of the lent bytes (32 bits
+    /// each), the lengths of the lent amounts, presence and labels and the task
+    /// (16 bits each), and the seed (32 bits).
+    pub(crate) fn encode(&self) -> Vec<u8> {
+        let mut bytes = Vec::new();
+        for field in [self.file.len() as u32, self.budget, self.bytes] {
+            bytes.extend(field.to_le_bytes());
+        }
+        let [amounts, presence, labels] = self.cells;
+        for field in [amounts, presence, labels, self.task as u16] {
+            bytes.extend(field.to_le_bytes());
+        }
+        bytes.extend(self.seed.to_le_bytes());
+        bytes.extend(self.file);
+        bytes
+    }
+}
 
 /// Numbers of 31 bits, by a method short enough to be written down anywhere.
 pub(crate) struct Draws(u64);

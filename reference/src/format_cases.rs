@@ -1,10 +1,5 @@
 //! Cases for the reader, loader and writer of book files, and what each comes
 //! to, so that another implementation can be compared.
-//!
-//! The cases stand in a stream one after another. A case is a header of 16
-//! bytes and the file. The header is little-endian: the file's length (32
-//! bits), the lengths of the lent amounts, presence, labels and output (16 bits
-//! each), and the seed (32 bits).
 
 mod base;
 mod bodies;
@@ -22,13 +17,15 @@ mod trailer;
 
 pub use outcome::Outcome;
 
+use crate::case_lines::{Entry, Task};
+
 /// Lengths of lent memory.
 #[derive(Clone, Copy, Debug, PartialEq, Eq)]
 pub struct Lent {
     pub amounts: u16,
     pub presence: u16,
     pub labels: u16,
-    pub output: u16,
+    pub output: u32,
 }
 
 impl Lent {
@@ -77,16 +74,18 @@ pub fn all() -> Vec<Case> {
 
 /// The stream of these cases.
 pub fn stream(cases: &[Case]) -> Vec<u8> {
-    let mut bytes = Vec::new();
-    for Case { file, lent, seed } in cases {
-        bytes.extend((file.len() as u32).to_le_bytes());
-        for length in [lent.amounts, lent.presence, lent.labels, lent.output] {
-            bytes.extend(length.to_le_bytes());
+    let entry = |Case { file, lent, seed }: &Case| {
+        Entry {
+            file,
+            budget: 0,
+            bytes: lent.output,
+            cells: [lent.amounts, lent.presence, lent.labels],
+            task: Task::LoadAndWrite,
+            seed: *seed,
         }
-        bytes.extend(seed.to_le_bytes());
-        bytes.extend(file);
-    }
-    bytes
+        .encode()
+    };
+    cases.iter().flat_map(entry).collect()
 }
 
 /// What each case comes to, one line a case.

@@ -15,14 +15,13 @@ use std::path::Path;
 use std::process::ExitCode;
 
 const USAGE: &str = "usage: reference run|assemble|list [FILE]
-       reference format-cases|run-cases|deepest FOLDER
-  run           run the book in FILE, or in standard input, and list what it does
-  assemble      write the book that a text describes
-  list          write the text that describes a book
-  format-cases  write cases for readers and writers of books to FOLDER/stdin, and
-                the lines that these cases have to give to FOLDER/stdout
-  run-cases     the same for runners of books
-  deepest       write the books that nest deepest to FOLDER";
+       reference cases|deepest FOLDER
+  run       run the book in FILE, or in standard input, and list what it does
+  assemble  write the book that a text describes
+  list      write the text that describes a book
+  cases     write cases for readers, writers and runners of books to FOLDER/stdin,
+            and the lines that these cases have to give to FOLDER/stdout
+  deepest   write the books that nest deepest to FOLDER";
 
 /// Exit code for a text with a fault and for a book that is refused. Only `run`
 /// lists a refused book, or one that stops, with exit code 0.
@@ -77,8 +76,7 @@ fn dispatch(arguments: &[OsString]) -> Result<(), Failure> {
         Some("run") => run(file),
         Some("assemble") => assemble(file),
         Some("list") => list(file),
-        Some("format-cases") => write_format_cases(file),
-        Some("run-cases") => write_run_cases(file),
+        Some("cases") => write_cases(file),
         Some("deepest") => write_deepest(file),
         _ => {
             let command = command.to_string_lossy();
@@ -106,30 +104,17 @@ fn list(file: Option<&Path>) -> Result<(), Failure> {
     print(notation::list(&book).as_bytes())
 }
 
-fn write_format_cases(folder: Option<&Path>) -> Result<(), Failure> {
-    let cases = format_cases::all();
-    let stream = format_cases::stream(&cases);
-    write_cases(folder, &stream, || format_cases::answers(&cases))
-}
-
-fn write_run_cases(folder: Option<&Path>) -> Result<(), Failure> {
-    let cases = run_cases::all();
-    let stream = run_cases::stream(&cases);
-    write_cases(folder, &stream, || {
-        on_deep_stack(|| run_cases::answers(&cases))
-    })
-}
-
-fn write_cases(
-    folder: Option<&Path>,
-    stream: &[u8],
-    answers: impl FnOnce() -> String,
-) -> Result<(), Failure> {
+/// The format cases and then the run cases.
+fn write_cases(folder: Option<&Path>) -> Result<(), Failure> {
     let Some(folder) = folder else {
         return Err(USAGE.to_string().into());
     };
-    output(&folder.join("stdin"), stream)?;
-    output(&folder.join("stdout"), answers().as_bytes())
+    let format = format_cases::all();
+    let run = run_cases::all();
+    let stream = [format_cases::stream(&format), run_cases::stream(&run)].concat();
+    output(&folder.join("stdin"), &stream)?;
+    let answers = format_cases::answers(&format) + &on_deep_stack(|| run_cases::answers(&run));
+    output(&folder.join("stdout"), answers.as_bytes())
 }
 
 fn write_deepest(folder: Option<&Path>) -> Result<(), Failure> {

@@ -1,10 +1,5 @@
 //! Cases for runners of books, and what each comes to, so that another
 //! implementation can be compared.
-//!
-//! The cases stand in a stream one after another. A case is a header of 20
-//! bytes and the file. The header is little-endian: the file's length, the
-//! budget and the length of the lent trace (32 bits each), the lengths of the
-//! lent amounts, presence and labels (16 bits each), and the seed (16 bits).
 
 mod deep;
 mod files;
@@ -20,6 +15,8 @@ mod sweeps;
 mod values;
 
 pub use outcome::Outcome;
+
+use crate::case_lines::{Entry, Task};
 
 /// Lengths of lent memory.
 #[derive(Clone, Copy, Debug, PartialEq, Eq)]
@@ -50,7 +47,7 @@ pub struct Case {
     pub lent: Lent,
     /// What all that is lent is drawn from, so that whatever is left alone
     /// shows.
-    pub seed: u16,
+    pub seed: u32,
 }
 
 impl Case {
@@ -89,25 +86,26 @@ pub fn all() -> Vec<Case> {
     ]
     .concat();
     for (number, case) in cases.iter_mut().enumerate() {
-        case.seed = number as u16;
+        case.seed = number as u32;
     }
     cases
 }
 
 /// The stream of these cases.
 pub fn stream(cases: &[Case]) -> Vec<u8> {
-    let mut bytes = Vec::new();
-    for case in cases {
+    let entry = |case: &Case| {
         let lent = case.lent;
-        for field in [case.file.len() as u32, case.budget, lent.trace] {
-            bytes.extend(field.to_le_bytes());
+        Entry {
+            file: &case.file,
+            budget: case.budget,
+            bytes: lent.trace,
+            cells: [lent.amounts, lent.presence, lent.labels],
+            task: Task::Run,
+            seed: case.seed,
         }
-        for field in [lent.amounts, lent.presence, lent.labels, case.seed] {
-            bytes.extend(field.to_le_bytes());
-        }
-        bytes.extend(&case.file);
-    }
-    bytes
+        .encode()
+    };
+    cases.iter().flat_map(entry).collect()
 }
 
 /// What each case comes to, one line a case. Some cases need a deep stack.

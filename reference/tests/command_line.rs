@@ -57,31 +57,23 @@ fn a_refused_book_is_listed() {
 }
 
 #[test]
-fn format_cases_go_to_a_folder() {
+fn cases_go_to_a_folder() {
     let folder = temporary("cases");
     fs::create_dir(&folder).unwrap();
-    let output = reference(&["format-cases".as_ref(), &folder], b"");
+    let output = reference(&["cases".as_ref(), &folder], b"");
     let stdin = fs::read(folder.join("stdin")).unwrap();
     let stdout = fs::read_to_string(folder.join("stdout")).unwrap();
     fs::remove_dir_all(&folder).unwrap();
-    let cases = format_cases::all();
-    assert_eq!(stdin, format_cases::stream(&cases));
-    assert_eq!(stdout.lines().count(), cases.len());
-    assert_eq!(output.stdout, b"");
-    assert_eq!(output.status.code(), Some(0));
-}
-
-#[test]
-fn run_cases_go_to_a_folder() {
-    let folder = temporary("run-cases");
-    fs::create_dir(&folder).unwrap();
-    let output = reference(&["run-cases".as_ref(), &folder], b"");
-    let stdin = fs::read(folder.join("stdin")).unwrap();
-    let stdout = fs::read_to_string(folder.join("stdout")).unwrap();
-    fs::remove_dir_all(&folder).unwrap();
-    let cases = run_cases::all();
-    assert_eq!(stdin, run_cases::stream(&cases));
-    assert_eq!(stdout.lines().count(), cases.len());
+    let format = format_cases::all();
+    let run = run_cases::all();
+    let (format_part, run_part) = stdin.split_at(format_cases::stream(&format).len());
+    assert_eq!(format_part, format_cases::stream(&format));
+    assert_eq!(run_part, run_cases::stream(&run));
+    let fields: Vec<usize> = stdout.lines().map(|line| line.split(' ').count()).collect();
+    let (format_lines, run_lines) = fields.split_at(format.len());
+    assert!(format_lines.iter().all(|&fields| fields == 9));
+    assert!(run_lines.iter().all(|&fields| fields == 8));
+    assert_eq!(run_lines.len(), run.len());
     assert_eq!(output.stdout, b"");
     assert_eq!(output.status.code(), Some(0));
 }
@@ -89,7 +81,7 @@ fn run_cases_go_to_a_folder() {
 #[test]
 fn a_missing_file_is_named() {
     let path = temporary("missing");
-    for command in ["run", "format-cases", "run-cases"] {
+    for command in ["run", "cases"] {
         let output = reference(&[command.as_ref(), &path], b"");
         let message = String::from_utf8(output.stderr).unwrap();
         assert!(message.contains(path.to_str().unwrap()), "{message}");
@@ -100,11 +92,10 @@ fn a_missing_file_is_named() {
 
 #[test]
 fn other_command_lines_show_the_usage() {
-    let lines: [&[&Path]; 5] = [
+    let lines: [&[&Path]; 4] = [
         &[],
         &["unknown".as_ref()],
-        &["format-cases".as_ref()],
-        &["run-cases".as_ref()],
+        &["cases".as_ref()],
         &["run".as_ref(), "one".as_ref(), "two".as_ref()],
     ];
     for arguments in lines {

@@ -24,10 +24,12 @@ fn a_case_is_a_header_and_the_file() {
         output: 0xFFFE,
     };
     let bytes = stream(&[case_w(lent, 0x0908_0706), case_w(lent, 0)]);
-    let header = [224, 0, 0, 0, 1, 2, 3, 0, 4, 5, 254, 255, 6, 7, 8, 9];
-    assert_eq!(bytes[..16], header);
-    assert_eq!(bytes[16..240], book_w().encode());
-    assert_eq!(bytes.len(), 480);
+    let header = [
+        224, 0, 0, 0, 0, 0, 0, 0, 254, 255, 0, 0, 1, 2, 3, 0, 4, 5, 1, 0, 6, 7, 8, 9,
+    ];
+    assert_eq!(bytes[..24], header);
+    assert_eq!(bytes[24..248], book_w().encode());
+    assert_eq!(bytes.len(), 496);
 }
 
 /// The lines were worked out by a program that shares nothing with this one.

@@ -1,25 +1,32 @@
 -- The triggers that a write fires, by number. Assumes nothing.
-use mathlib.Core.Path.{_≡_, sym, ap, _∙_}
+use mathlib.Core.Path.{_≡_, refl, sym, ap, _∙_, subst}
 use mathlib.Core.List.{List, []}
-use mathlib.Core.Bool.{Bool, true, false}
-use Prim.Native.Nat.{ℕ, suc, _+_, _-_, _≤_, _<_}
+use mathlib.Core.Bool.{Bool, true, false, cond, false≢true}
+use Prim.Native.Nat.{ℕ, zero, suc, _+_, _-_, _≤_, _<_}
 use native.Mathlib.Numerals.{add-one}
 use native.Mathlib.Omega.{arith}
 use lib.IntN.{ℤ}
 use lib.ListN.{length}
-use Rattle.book.specs.Layout.{count}
+use Rattle.book.specs.Layout.{count, section}
+use Rattle.book.specs.Kinds.{command}
+use Rattle.book.specs.Refusals.{verdict}
+use Rattle.book.specs.declared.Verdict.the-variants.{Accepted}
 use Rattle.book.proofs.Decoded.{count-triggers}
 use Rattle.monitor.specs.Labelled.{Label, bottom, Lab}
 use Rattle.monitor.specs.Run.{Cell, State, Out, done, M, next, _>>_, each, when, own}
 use Rattle.monitor.specs.Rules.{Key, trigger-vars, numbers, trigger-at, fitting, trigger-run, fire, exec}
 use Rattle.monitor.specs.Call.{script}
-use Rattle.machine.specs.Ready.{script-of}
+use Rattle.machine.specs.Ready.{script-of, Node}
 use Rattle.machine.specs.Store.{Store, state, cell}
 use Rattle.machine.specs.Promises.{ran, ended, Does, DoesAside, env, Enters}
 use Rattle.machine.specs.Writes.{key-of, Fires}
 use Rattle.machine.specs.declared.Outcome.the-variants.{Done, Stopped}
 use Rattle.machine.specs.declared.Ran.{Ran}
-use Rattle.machine.proofs.Runs.{after-none, does-as, quietly, then-stops, then-goes, aside, own-does}
+use Rattle.commands.specs.declared.Fitting.{Fitting}
+use Rattle.commands.specs.declared.Fitting.the-variants as fitted
+use Rattle.commands.specs.Parts.{first-fitting}
+use Rattle.machine.proofs.Scripts.{trigger-read-at}
+use Rattle.machine.proofs.Runs.{after-none, comes-to, does-as, quietly, then-stops, then-goes, aside, own-does}
 
 -- the same key and the same cell
 pub fires-as : (file : List ℕ) (ctx : Label) (t event place : ℕ) (label : Label)
@@ -34,6 +41,47 @@ fires-as file ctx t event place label eo el ea d = aside λ vars.
 script-triggers : (file : List ℕ) → length (script-of file .triggers) ≡ count file 5
 unfolding script
 script-triggers file = count-triggers file
+
+-- ---- the first that fits
+
+module _ (file : List ℕ) (event place t : ℕ) where
+  -- there is none from the end on
+  pub first-none : count file 5 ≤ t → first-fitting file event place (count file 5 - t) t ≡ fitted.None
+  unfolding first-fitting
+  first-none h =
+      let none : count file 5 - t ≡ 0 = omega arith in
+      ap (λ (k : ℕ). first-fitting file event place k t) none
+
+  module _ (h : t < count file 5) where
+    first-chosen : first-fitting file event place (count file 5 - t) t
+        ≡ cond (fitting (script-of file) event place (trigger-at (script-of file) t))
+        (fitted.Trigger t (trigger-at (script-of file) t .user) (trigger-at (script-of file) t .body))
+        (first-fitting file event place (count file 5 - suc t) (suc t))
+    unfolding first-fitting
+    first-chosen =
+        let more : count file 5 - t ≡ suc (count file 5 - suc t) = omega (arith, h) in
+        ap (λ (k : ℕ). first-fitting file event place k t) more
+
+    pub first-passes : fitting (script-of file) event place (trigger-at (script-of file) t) ≡ false
+        → first-fitting file event place (count file 5 - t) t ≡ first-fitting file event place (count file 5 - (t + 1)) (t + 1)
+    first-passes e = first-chosen ∙ ap (λ (y : Bool). cond y (fitted.Trigger t (trigger-at (script-of file) t .user) (trigger-at (script-of file) t .body))
+        (first-fitting file event place (count file 5 - suc t) (suc t))) e
+        ∙ ap (λ (j : ℕ). first-fitting file event place (count file 5 - j) j) (sym (add-one t))
+
+    pub first-fits : {user body : ℕ} → fitting (script-of file) event place (trigger-at (script-of file) t) ≡ true
+        → user ≡ trigger-at (script-of file) t .user → body ≡ trigger-at (script-of file) t .body
+        → first-fitting file event place (count file 5 - t) t ≡ fitted.Trigger t user body
+    first-fits e eu eb = first-chosen ∙ ap (λ (y : Bool). cond y (fitted.Trigger t (trigger-at (script-of file) t .user) (trigger-at (script-of file) t .body))
+        (first-fitting file event place (count file 5 - suc t) (suc t))) e ∙ λ i. fitted.Trigger t (sym eu i) (sym eb i)
+
+-- a trigger's body is a command, run by one of the eight users
+pub trigger-runs : (file : List ℕ) (number : ℕ) {user body : ℕ} → verdict file ≡ Accepted → number < count file 5
+    → user ≡ trigger-at (script-of file) number .user → body ≡ trigger-at (script-of file) number .body → Node command file body × (user < 8)
+trigger-runs file number v h eu eb =
+    let trigger = trigger-read-at file v number h (section file 5) refl in
+    (subst (λ (j : ℕ). Node command file j) (sym eb) (trigger .body-command), omega (arith, eu, trigger .user-below))
+
+-- ---- what they do
 
 module _ (file : List ℕ) (ctx : Label) (event place : ℕ) (key : Key) (z : Lab Cell) where
   -- trigger t, where it fits
@@ -67,33 +115,15 @@ module _ (file : List ℕ) (ctx : Label) (event place : ℕ) (key : Key) (z : La
     unfolding one trigger-run when
     one-misses fuel s e = ap (λ (y : Bool). elim y as (λ w. Out (Unit {0})) [ true ↦ runs fuel s | false ↦ done [] tt s ]) e
 
+    -- a trigger that does not fit is passed over
+    passes : (fuel : ℕ) (s : State) → t < count file 5 → fitting (script-of file) event place (trigger-at (script-of file) t) ≡ false
+        → fires t fuel s ≡ fires (suc t) fuel s
+    unfolding next
+    passes fuel s h e = ap (λ m. m s) (fires-first t fuel h) ∙ ap (λ o. next o (λ a. fires (suc t) fuel)) (one-misses fuel s e)
+        ∙ after-none (fires (suc t) fuel s)
+
     module _ {x : Store} {left used : ℕ} where
-      pub none-left : {r : Ran} → count file 5 ≤ t → r ≡ ran Done left used → used ≤ length (x .trace) → DoesAside (fires t) x left used r x
-      unfolding ended each numbers
-      none-left h e u = aside λ vars. quietly Done bottom left e (omega arith) u λ fuel l.
-          let none : count file 5 - t ≡ 0 = omega arith in
-          ap (λ m. m (state vars x left used)) (fires-is t fuel) ∙ ap (λ (k : ℕ). each (numbers t k) (one fuel) (state vars x left used)) none
-
       module _ (h : t < count file 5) where
-        pub misses : {r : Ran} {x' : Store} → fitting (script-of file) event place (trigger-at (script-of file) t) ≡ false
-            → DoesAside (fires (t + 1)) x left used r x' → DoesAside (fires t) x left used r x'
-        unfolding next
-        misses {r} {x'} e d = aside λ vars.
-            let w : Does (fires (t + 1)) vars x left used r vars x' = d .does vars in
-            record {
-              records = w .records;
-              obstacle = w .obstacle;
-              is = λ fuel l. ap (λ m. m (state vars x left used)) (fires-first t fuel h)
-                  ∙ ap (λ o. next o (λ a. fires (suc t) fuel)) (one-misses fuel (state vars x left used) e)
-                  ∙ after-none (fires (suc t) fuel (state vars x left used))
-                  ∙ ap (λ (j : ℕ). fires j fuel (state vars x left used)) (sym (add-one t))
-                  ∙ w .is fuel l;
-              trace-is = w .trace-is;
-              used-is = w .used-is;
-              fits = w .fits;
-              within = w .within;
-            }
-
         module _ (e : fitting (script-of file) event place (trigger-at (script-of file) t) ≡ true) {user body : ℕ} (above : ℕ)
             (eu : user ≡ trigger-at (script-of file) t .user) (eb : body ≡ trigger-at (script-of file) t .body)
             {own-vars own-vars' : ℕ → Lab ℤ} (ev : own-vars ≡ trigger-vars ctx key z) {r : Ran} {x' : Store}
@@ -110,3 +140,92 @@ module _ (file : List ℕ) (ctx : Label) (event place : ℕ) (key : Key) (z : La
               → DoesAside (fires t) x left used r' x''
           fitting-goes k g = aside λ vars. does-as (λ fuel. fires-first t fuel h)
               (then-goes (ran-one vars) k (does-as (λ fuel. ap (λ (j : ℕ). fires j fuel) (sym (add-one t))) (g .does vars)))
+
+  -- ---- from the first that fits on
+
+  is-none : Fitting → Bool
+  is-none fitted.None = true
+  is-none (fitted.Trigger number user body) = false
+
+  number-of : Fitting → ℕ
+  number-of fitted.None = 0
+  number-of (fitted.Trigger number user body) = number
+
+  user-of : Fitting → ℕ
+  user-of fitted.None = 0
+  user-of (fitted.Trigger number user body) = user
+
+  body-of : Fitting → ℕ
+  body-of fitted.None = 0
+  body-of (fitted.Trigger number user body) = body
+
+  none-not-some : {A : Type 0} {number user body : ℕ} → fitted.None ≡ fitted.Trigger number user body → A
+  unfolding is-none
+  none-not-some e = absurd (false≢true (sym (ap is-none e)))
+
+  -- the trigger found: those before it do not fit
+  pub record Found (t number user body : ℕ) : Type 0 where
+    pub from : t ≤ number
+    pub below : number < count file 5
+    pub fits : fitting (script-of file) event place (trigger-at (script-of file) number) ≡ true
+    pub user-is : user ≡ trigger-at (script-of file) number .user
+    pub body-is : body ≡ trigger-at (script-of file) number .body
+    pub same : (fuel : ℕ) (s : State) → fires t fuel s ≡ fires number fuel s
+
+  abbrev chosen : ℕ → ℕ → Bool → Fitting
+  chosen k t y = cond y (fitted.Trigger t (trigger-at (script-of file) t .user) (trigger-at (script-of file) t .body)) (first-fitting file event place k (suc t))
+
+  pub found : (k t : ℕ) → k ≡ count file 5 - t → {number user body : ℕ} → first-fitting file event place k t ≡ fitted.Trigger number user body
+      → Found t number user body
+  unfolding first-fitting number-of user-of body-of
+  found zero t h e = none-not-some e
+  found (suc k) t h {number} {user} {body} e = go (fitting (script-of file) event place (trigger-at (script-of file) t)) refl
+      (λ e'. found k (suc t) (omega (arith, h)) e')
+    where
+      go : (y : Bool) → fitting (script-of file) event place (trigger-at (script-of file) t) ≡ y
+          → (first-fitting file event place k (suc t) ≡ fitted.Trigger number user body → Found (suc t) number user body) → Found t number user body
+      go true q later =
+          let here : fitted.Trigger t (trigger-at (script-of file) t .user) (trigger-at (script-of file) t .body) ≡ fitted.Trigger number user body
+          = sym (ap (chosen k t) q) ∙ e in
+          let n : t ≡ number = ap number-of here in
+          record {
+            from = omega (arith, n);
+            below = omega (arith, n, h);
+            fits = ap (λ (j : ℕ). fitting (script-of file) event place (trigger-at (script-of file) j)) (sym n) ∙ q;
+            user-is = sym (ap user-of here) ∙ ap (λ (j : ℕ). trigger-at (script-of file) j .user) n;
+            body-is = sym (ap body-of here) ∙ ap (λ (j : ℕ). trigger-at (script-of file) j .body) n;
+            same = λ fuel s. ap (λ (j : ℕ). fires j fuel s) n;
+          }
+      go false q later =
+          let on = later (sym (ap (chosen k t) q) ∙ e) in
+          record {
+            from = omega (arith, on .from);
+            below = on .below;
+            fits = on .fits;
+            user-is = on .user-is;
+            body-is = on .body-is;
+            same = λ fuel s. passes t fuel s (omega (arith, h)) q ∙ on .same fuel s;
+          }
+
+  none-fits : (k t : ℕ) → k ≡ count file 5 - t → first-fitting file event place k t ≡ fitted.None → (fuel : ℕ) (s : State) → fires t fuel s ≡ done [] tt s
+  unfolding first-fitting each numbers
+  none-fits zero t h e fuel s = ap (λ m. m s) (fires-is t fuel) ∙ ap (λ (k : ℕ). each (numbers t k) (one fuel) s) (sym h)
+  none-fits (suc k) t h e fuel s = go (fitting (script-of file) event place (trigger-at (script-of file) t)) refl
+      (λ e'. none-fits k (suc t) (omega (arith, h)) e' fuel s)
+    where
+      go : (y : Bool) → fitting (script-of file) event place (trigger-at (script-of file) t) ≡ y
+          → (first-fitting file event place k (suc t) ≡ fitted.None → fires (suc t) fuel s ≡ done [] tt s) → fires t fuel s ≡ done [] tt s
+      go true q later = none-not-some (sym e ∙ ap (chosen k t) q)
+      go false q later = passes t fuel s (omega (arith, h)) q ∙ later (sym (ap (chosen k t) q) ∙ e)
+
+  pub none-left : (t k : ℕ) {x : Store} {left used : ℕ} {r : Ran} → k ≡ count file 5 - t → first-fitting file event place k t ≡ fitted.None
+      → r ≡ ran Done left used → used ≤ length (x .trace) → DoesAside (fires t) x left used r x
+  unfolding ended
+  none-left t k {x} {left} {used} h e q u = aside λ vars. quietly Done bottom left q (omega arith) u λ fuel l.
+      none-fits k t h e fuel (state vars x left used)
+
+  -- what is done from the trigger found on, is done from here on
+  pub from-found : {t number user body : ℕ} {x x' : Store} {left used : ℕ} {r : Ran} → Found t number user body
+      → DoesAside (fires number) x left used r x' → DoesAside (fires t) x left used r x'
+  from-found {t} {number} {x = x} {left = left} {used = used} f d = aside λ vars.
+      comes-to (λ fuel h. f .same fuel (state vars x left used)) (d .does vars)

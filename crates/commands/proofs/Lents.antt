@@ -1,21 +1,23 @@
 -- What a command reads of its node, and what it lends on. Assumes nothing.
-use mathlib.Core.Path.{_≡_, sym, ap, _∙_, subst}
+use mathlib.Core.Path.{_≡_, refl, sym, ap, _∙_, subst}
 use mathlib.Core.List.{List}
-use mathlib.Core.Bool.{Bool, true, false, cond}
 use Prim.Native.Nat.{ℕ, _+_, _*_, _≤_, _<_}
+use mathlib.Core.Bool.{Bool, true, false, _&&_}
+use mathlib.Core.Logic.{_⊎_, inl, inr}
+use native.Mathlib.Decide.{ℕ-discrete}
 use native.Mathlib.Omega.{arith}
+use lib.Dec.{leb}
+use borrow.Author.Tests.{leb-true, lt-leb}
 use lib.IntN.{ℤ}
 use lib.ListN.{length, getD}
-use Rattle.book.specs.Bytes.{le16}
 use Rattle.book.specs.Records.{NodeRecord}
-use Rattle.book.specs.Layout.{count, decode}
-use Rattle.book.specs.Kinds.{command, cost-of}
-use Rattle.book.specs.Refusals.{node-at, is-zero, verdict}
-use Rattle.book.specs.declared.Verdict.the-variants.{Accepted}
+use Rattle.book.specs.Layout.{decode}
+use Rattle.book.specs.Kinds.{expression, command, between, cost-of}
+use Rattle.book.specs.Refusals.{node-at}
+use Rattle.book.proofs.Chains.{both}
 use Rattle.monitor.specs.Rules.{cost-at}
 use Rattle.machine.specs.Ready.{script-of, Ready, Lengths, Node, Lent}
-use Rattle.machine.proofs.Nodes.{script-node, Read, Child, read-at, cost-read, if-b, if-c}
-use Rattle.commands.specs.Amounts.{chosen-field}
+use Rattle.machine.proofs.Nodes.{script-node, Read, Child, read-at, cost-read, if-a, while-a}
 
 -- the record of a command that is run
 pub command-read : {file : List ℕ} {nodes : ℕ} {costs : List ℕ} {n : ℕ} → Ready file nodes costs → Node command file n
@@ -36,27 +38,27 @@ named-node {sort} {file} e h = subst (λ (j : ℕ). Node sort file j) (sym e) h
 pub child-node : {sort : ℕ} {file : List ℕ} {n v w : ℕ} → w ≡ v → Child sort file n v → Node sort file w
 child-node e c = named-node e (c .node)
 
--- ---- the way of an if
-
-pub way-below : (z : ℤ) {field : ℕ} → field ≡ chosen-field z → field ≤ 6
-way-below z {field} e = go (is-zero z) e
+-- the test of an if or a while
+pub test-node : {file : List ℕ} {nodes : ℕ} {costs : List ℕ} {n : ℕ} → Ready file nodes costs → Node command file n
+    → between 19 20 (node-at (decode file) n .kind) ≡ true → Node expression file (node-at (decode file) n .a)
+test-node {file} {n = n} l h e = go (ℕ-discrete (node-at (decode file) n .kind) 19)
   where
-    go : (y : Bool) → field ≡ cond y 6 4 → field ≤ 6
-    go true e = omega arith
-    go false e = omega arith
+    go : Dec (node-at (decode file) n .kind ≡ 19) → Node expression file (node-at (decode file) n .a)
+    go (yes q) = if-a file (l .accepted) n (h .inside) q .node
+    go (no d) =
+        let sides = both (leb 19 (node-at (decode file) n .kind)) _ e in
+        let low = leb-true 19 (node-at (decode file) n .kind) (sides .0) in
+        let high = leb-true (node-at (decode file) n .kind) 20 (sides .1) in
+        while-a file (l .accepted) n (h .inside) (omega (arith, low, high, d)) .node
 
-pub way-read : {file : List ℕ} {at : ℕ} {x : NodeRecord} (z : ℤ) {field : ℕ} → Read file at x → field ≡ chosen-field z
-    → le16 file (at + field) ≡ cond (is-zero z) (x .c) (x .b)
-way-read {file} {at} {x} z node e = ap (λ (f : ℕ). le16 file (at + f)) e ∙ go (is-zero z)
+-- a kind that is below 18 or above 22
+pub outside-kinds : {j k : ℕ} → k ≡ j → k < 18 ⊎ 23 ≤ k → between 18 22 j ≡ false
+outside-kinds {j} e (inl h) = rw (lt-leb 18 j (omega (arith, e, h)))
+outside-kinds {j} e (inr h) = rw (lt-leb j 22 (omega (arith, e, h))) (and-false (leb 18 j))
   where
-    go : (y : Bool) → le16 file (at + cond y 6 4) ≡ cond y (x .c) (x .b)
-    go true = node .c
-    go false = node .b
-
-pub way-child : (file : List ℕ) (v : verdict file ≡ Accepted) (n : ℕ) → n < count file 3 → node-at (decode file) n .kind ≡ 19
-    → (y : Bool) → Child command file n (cond y (node-at (decode file) n .c) (node-at (decode file) n .b))
-way-child file v n h e true = if-c file v n h e
-way-child file v n h e false = if-b file v n h e
+    and-false : (x : Bool) → x && false ≡ false
+    and-false true = refl
+    and-false false = refl
 
 -- ---- what is lent on
 

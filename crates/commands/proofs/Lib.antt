@@ -1,9 +1,8 @@
-pub mod Amounts
 pub mod Firing
 pub mod Lents
 pub mod Meanings
 pub mod Numbers
 pub mod Orders
-pub mod Posting
 pub mod Steps
 pub mod Turns
+pub mod Ways

@@ -1,28 +1,33 @@
--- The ways through a skip, a sequence and an if. Assumes nothing.
-use mathlib.Core.Path.{_≡_, refl, sym, ap, _∙_}
+-- The ways through a sequence and an if. Assumes nothing.
+use mathlib.Core.Path.{_≡_, refl, sym, ap, _∙_, subst}
 use mathlib.Core.List.{List}
-use mathlib.Core.Bool.{true, false, cond}
-use Prim.Native.Nat.{ℕ, _≤_}
+use mathlib.Core.Bool.{Bool, true, false, cond}
+use Prim.Native.Nat.{ℕ, _≤_, _<_}
 use native.Mathlib.Omega.{arith}
 use lib.IntN.{ℤ}
 use lib.ListN.{length}
 use Rattle.places.specs.Sets.{union}
 use Rattle.book.specs.Records.{NodeRecord}
-use Rattle.book.specs.Layout.{decode}
-use Rattle.book.specs.Refusals.{node-at, is-zero}
-use Rattle.monitor.specs.Labelled.{Label, bottom, Lab}
-use Rattle.monitor.specs.Run.{Out, M, _>>=_, _>>_}
-use Rattle.monitor.specs.Syntax.{skip, cmd-of}
+use Rattle.book.specs.Layout.{count, decode}
+use Rattle.book.specs.Kinds as kinds
+use Rattle.book.specs.Refusals.{node-at, is-zero, verdict}
+use Rattle.book.specs.declared.Verdict.the-variants.{Accepted}
+use Rattle.monitor.specs.Labelled.{Label, Lab}
+use Rattle.monitor.specs.Run.{Cell, Out, M, _>>=_, _>>_}
 use Rattle.monitor.specs.Rules.{within-label, choose, command, exec}
-use Rattle.machine.specs.Ready.{script-of}
-use Rattle.machine.specs.Store.{Store, state}
-use Rattle.machine.specs.Promises.{Gives, Evaluates, ran, stop-of, ended, Does, env, Enters, Commands}
-use Rattle.machine.specs.declared.Value.the-variants as value
-use Rattle.machine.specs.declared.Valued.{Valued}
+use Rattle.machine.specs.Ready.{script-of, Node}
+use Rattle.machine.specs.Store.{Store}
+use Rattle.machine.specs.Promises.{Evaluates, ran, stop-of, Does, env, Enters, Commands}
+use Rattle.machine.specs.declared.Outcome.{Outcome}
 use Rattle.machine.specs.declared.Outcome.the-variants.{Done, Stopped}
 use Rattle.machine.specs.declared.Ran.{Ran}
-use Rattle.machine.proofs.Runs.{does-as, quietly, then-stops, then-goes, value-stops, value-goes}
+use Rattle.commands.specs.declared.Next.the-variants.{Enter, End}
+use Rattle.commands.specs.declared.Decided.{Decided}
+use Rattle.commands.specs.Parts.{leads, end-of, Decides}
+use Rattle.machine.proofs.Nodes.{if-b, if-c}
+use Rattle.machine.proofs.Runs.{does-as, then-stops, then-goes, value-stops, value-goes}
 use Rattle.commands.proofs.Steps.{cells}
+use Rattle.commands.proofs.Ways.{Goes, if-ends, if-goes}
 use Rattle.commands.proofs.Meanings.{as-sequence, as-branch, command-is}
 
 -- the way that a test chooses
@@ -31,17 +36,14 @@ unfolding choose
 choose-is z m b c = λ i s.
     (elim (is-zero z) as (λ y. _≡_ {A = Out (Unit {0})} (elim y [ true ↦ m c s | false ↦ m b s ]) (m (cond y c b) s)) [ true ↦ refl | false ↦ refl ]) i
 
+-- a test leaves no more than there was
+pub decided-less : {file : List ℕ} {ctx : Label} {n : ℕ} {cells : ℕ → Lab Cell} {vars : ℕ → Lab ℤ} {left : ℕ} {r : Decided}
+    → Decides file ctx n cells vars left r → r .left ≤ left
+decided-less d = omega (arith, ap (λ (y : Decided). y .left) (d .is), d .gives .within)
+
 module _ (file : List ℕ) (ctx : Label) (user above n : ℕ) where
   abbrev node : NodeRecord
   node = node-at (decode file) n
-
-  -- ---- 16: skip
-
-  pub skips : {vars : ℕ → Lab ℤ} {x : Store} {left used : ℕ} {r : Ran} → cmd-of node ≡ skip → r ≡ ran Done left used
-      → used ≤ length (x .trace) → Does (Commands file ctx user above n) vars x left used r vars x
-  unfolding command ended
-  skips {vars} {x} {left} {used} e q u = quietly Done bottom left q (omega arith) u λ fuel h.
-      ap (λ (m : M (Unit {0})). m (state vars x left used)) (command-is file ctx user above n e fuel)
 
   -- ---- 18: a then b
 
@@ -68,23 +70,42 @@ module _ (file : List ℕ) (ctx : Label) (user above n : ℕ) where
       (exec (script-of file) true fuel (within-label (env ctx user above) y) (node .b))
       (exec (script-of file) true fuel (within-label (env ctx user above) y) (node .c))
 
-  module _ (kind : node .kind ≡ 19) {a : ℕ} (ea : a ≡ node .a) where
-    branch-is : (fuel : ℕ) → Commands file ctx user above n fuel ≡ (Evaluates file a fuel >>= ways fuel)
+  module _ (kind : node .kind ≡ 19) where
+    branch-is : (fuel : ℕ) → Commands file ctx user above n fuel ≡ (Evaluates file (node .a) fuel >>= ways fuel)
     unfolding command ways
-    branch-is fuel = command-is file ctx user above n (as-branch node kind) fuel ∙ ap (λ (j : ℕ). Evaluates file j fuel >>= ways fuel) (sym ea)
+    branch-is fuel = command-is file ctx user above n (as-branch node kind) fuel
 
-    module _ {vars : ℕ → Lab ℤ} {x : Store} {left used : ℕ} {g : Valued} (d : Gives (Evaluates file a) (cells x) vars left g) where
-      pub branch-stops : {r : Ran} {number i : ℕ} → g .answer ≡ value.Stopped number i → r ≡ ran (stop-of (g .answer)) (g .left) used
-          → used ≤ length (x .trace) → Does (Commands file ctx user above n) vars x left used r vars x
-      branch-stops e q u = does-as branch-is (value-stops d ways _ _ e q u)
+    module _ {vars : ℕ → Lab ℤ} (x : Store) {left : ℕ} (used : ℕ) {r : Decided} (d : Decides file ctx n (cells x) vars left r) where
+      led-is : r .next ≡ leads node (d .given .answer)
+      led-is = ap (λ (y : Decided). y .next) (d .is)
 
-      pub branch-goes : {r : Ran} {vars' : ℕ → Lab ℤ} {x' : Store} {z : ℤ} {inner : Label} {way : ℕ} → g .answer ≡ value.Known z
-          → inner ≡ union ctx (g .label) → way ≡ cond (is-zero z) (node .c) (node .b)
-          → Does (Enters file inner user above way) vars x (g .left) used r vars' x' → Does (Commands file ctx user above n) vars x left used r vars' x'
-      unfolding within-label ways
-      branch-goes {z = z} {inner = inner} {way = way} e ei ew d' = does-as branch-is (value-goes d ways z e (does-as chosen d'))
-        where
-          chosen : (fuel : ℕ) → ways fuel (record { val = z; lab = g .label }) ≡ Enters file inner user above way fuel
-          chosen fuel = choose-is z (λ j. Enters file (union ctx (g .label)) user above j fuel) (node .b) (node .c)
-              ∙ ap (λ (j : ℕ). Enters file (union ctx (g .label)) user above j fuel) (sym ew)
-              ∙ ap (λ (c : Label). Enters file c user above way fuel) (sym ei)
+      pub branch-ends : {q : Ran} {outcome : Outcome} → r .next ≡ End outcome → q ≡ ran (end-of (r .next)) (r .left) used → used ≤ length (x .trace)
+          → Does (Commands file ctx user above n) vars x left used q vars x
+      unfolding leads end-of stop-of
+      branch-ends {q} e h u =
+          let stop = if-ends node kind (d .given .answer) (sym led-is ∙ e) in
+          let same : end-of (r .next) ≡ stop-of (d .given .answer) = ap end-of (led-is ∙ ap (leads node) (stop .is)) ∙ ap stop-of (sym (stop .is)) in
+          does-as branch-is (value-stops (d .gives) ways _ _ (stop .is)
+          (h ∙ λ i. ran (same i) (d .is i .left) used) u)
+
+      module _ {way : ℕ} (e : r .next ≡ Enter way) where
+        goes : Goes node (d .given .answer) way
+        goes = if-goes node kind (d .given .answer) (sym led-is ∙ e)
+
+        pub way-child : (v : verdict file ≡ Accepted) → n < count file 3 → Node kinds.command file way
+        way-child v h = subst (λ (j : ℕ). Node kinds.command file j) (sym (goes .way-is)) (go (is-zero (goes .z)))
+          where
+            go : (y : Bool) → Node kinds.command file (cond y (node .c) (node .b))
+            go true = if-c file v n h kind .node
+            go false = if-b file v n h kind .node
+
+        pub branch-goes : {q : Ran} {vars' : ℕ → Lab ℤ} {x' : Store}
+            → Does (Enters file (r .inner) user above way) vars x (r .left) used q vars' x' → Does (Commands file ctx user above n) vars x left used q vars' x'
+        unfolding within-label ways
+        branch-goes {q} {vars'} {x'} d' = does-as branch-is (value-goes (d .gives) ways (goes .z) (goes .is) (does-as chosen
+            (subst (λ (l : ℕ). Does (Enters file (r .inner) user above way) vars x l used q vars' x') (ap (λ (y : Decided). y .left) (d .is)) d')))
+          where
+            chosen : (fuel : ℕ) → ways fuel (record { val = goes .z; lab = d .given .label }) ≡ Enters file (r .inner) user above way fuel
+            chosen fuel = choose-is (goes .z) (λ j. Enters file (union ctx (d .given .label)) user above j fuel) (node .b) (node .c)
+                ∙ ap (λ (j : ℕ). Enters file (union ctx (d .given .label)) user above j fuel) (sym (goes .way-is))
+                ∙ ap (λ (y : Decided). Enters file (y .inner) user above way fuel) (sym (d .is))

@@ -1,5 +1,5 @@
 -- The trace of one run after another, and the entry of a node: its cost is paid, or it stops with 21. Assumes nothing.
-use mathlib.Core.Path.{_≡_, refl, sym, ap, _∙_}
+use mathlib.Core.Path.{_≡_, refl, sym, ap, _∙_, subst}
 use mathlib.Core.List.{List, [], _++_}
 use mathlib.Core.Bool.{Bool, true, false, cond}
 use Prim.Native.Nat.{ℕ, zero, suc, pred, _+_, _-_, _*_, _≤_, _<_}
@@ -36,6 +36,11 @@ same-length t used a e u h = ap length e ∙ with-length t used (omega arith) a 
 pub same-trace : {m : ℕ → M (Unit {0})} {vars vars' : ℕ → Lab ℤ} {x x' : Store} {left used : ℕ} {r : Ran}
     → Does m vars x left used r vars' x' → length (x' .trace) ≡ length (x .trace)
 same-trace {x = x} {used = used} d = same-length (x .trace) used (d .records) (d .trace-is) (d .used-is) (d .fits)
+
+-- the same answer by another name
+pub answers : {m : ℕ → M (Unit {0})} {vars vars' : ℕ → Lab ℤ} {x x' : Store} {left used : ℕ} {q r : Ran}
+    → q ≡ r → Does m vars x left used r vars' x' → Does m vars x left used q vars' x'
+answers {m} {vars} {vars'} {x} {x'} {left} {used} e d = subst (λ (a : Ran). Does m vars x left used a vars' x') (sym e) d
 
 -- the cells of a store
 abbrev pub cells : Store → ℕ → Lab Cell

@@ -1,9 +1,11 @@
 -- The turns of a while. Assumes nothing.
-use mathlib.Core.Path.{_≡_, sym, ap, _∙_}
+use mathlib.Core.Path.{_≡_, refl, sym, ap, _∙_, subst}
 use mathlib.Core.List.{List, [], _++_}
-use mathlib.Core.Bool.{Bool, true, false}
+use mathlib.Core.Bool.{Bool, true, false, cond, false≢true}
 use Prim.Native.Nat.{ℕ, pred, _+_, _-_, _*_, _≤_, _<_}
 use native.Mathlib.Omega.{arith}
+use lib.Dec.{ltb}
+use borrow.Author.Tests.{ltb-true, ltb-false}
 use lib.IntN.{ℤ}
 use lib.ListN.{length, length-append}
 use Rattle.places.specs.Sets.{union}
@@ -18,12 +20,17 @@ use Rattle.machine.specs.Store.{Store, state, with-records}
 use Rattle.machine.specs.Promises.{Gives, Evaluates, ran, stop-of, ended, Does, env, Enters, Commands}
 use Rattle.machine.specs.declared.Value.the-variants as value
 use Rattle.machine.specs.declared.Valued.{Valued}
+use Rattle.machine.specs.declared.Outcome.{Outcome}
 use Rattle.machine.specs.declared.Outcome.the-variants.{Done, Stopped}
 use Rattle.machine.specs.declared.Ran.{Ran}
+use Rattle.commands.specs.declared.Next.the-variants.{Enter, End}
+use Rattle.commands.specs.declared.Decided.{Decided}
+use Rattle.commands.specs.Parts.{leads, end-of, Decides, paid}
 use Rattle.machine.proofs.Traces.{with-none}
 use Rattle.machine.proofs.Runs.{after-none, after-ended, next-done, next-known, does-as, quietly, then-stops, then-goes, value-stops, value-goes}
 use Rattle.machine.proofs.WriteParts.{after-after}
-use Rattle.commands.proofs.Steps.{joined, same-length, cells, same-trace, entered, spent, enters-not}
+use Rattle.commands.proofs.Steps.{joined, same-length, cells, same-trace, entered, spent, enters-not, entry-costs}
+use Rattle.commands.proofs.Ways.{Turns, while-ends, while-goes}
 use Rattle.commands.proofs.Meanings.{as-while, command-is}
 
 -- A while that has turned: what it does from its first test on is the records so far, and then what it does from here on. The context
@@ -41,14 +48,52 @@ pub record Turned (file : List ℕ) (user above n : ℕ) (ctx : Label) (vars : �
   pub fits : used' ≤ length (x .trace)
   pub within : left' ≤ left
 
--- the invariant of the loop: the test a, the body b and the cost are the node's
-pub record Turning (file : List ℕ) (user above n a b cost : ℕ) (ctx : Label) (vars : ℕ → Lab ℤ) (x : Store) (left used : ℕ) (ctx' : Label)
-    (vars' : ℕ → Lab ℤ) (x' : Store) (left' used' : ℕ) : Type 0 where
+-- the invariant of the loop
+pub record Turning (file : List ℕ) (user above n : ℕ) (ctx : Label) (vars : ℕ → Lab ℤ) (x : Store) (left used : ℕ) (ctx' : Label) (vars' : ℕ → Lab ℤ)
+    (x' : Store) (left' used' : ℕ) : Type 0 where
   pub turned : Turned file user above n ctx vars x left used ctx' vars' x' left' used'
   pub cells : Lengths (x' .amounts) (x' .presence) (x' .labels)
-  pub test : a ≡ node-at (decode file) n .a
-  pub body : b ≡ node-at (decode file) n .b
-  pub price : cost ≡ cost-at (script-of file) n
+
+-- ---- the cost of the next test
+
+is-done : Outcome → Bool
+is-done Done = true
+is-done (Stopped number node) = false
+
+done-not-stopped : {A : Type 0} (number node : ℕ) → Done ≡ Stopped number node → A
+unfolding is-done
+done-not-stopped number node e = absurd (false≢true (sym (ap is-done e)))
+
+-- the body was done, and the next test is paid
+pub record Again (q : Ran) (outcome : Outcome) (left used cost : ℕ) : Type 0 where
+  pub done-is : outcome ≡ Done
+  pub enough : cost ≤ left
+  pub left-is : q .left ≡ left - cost
+  pub used-is : q .used ≡ used
+
+pub paid-again : {q : Ran} (outcome : Outcome) (left used n cost : ℕ) → q ≡ paid outcome left used n cost → q .outcome ≡ Done → Again q outcome left used cost
+unfolding paid
+paid-again {q} Done left used n cost e h = go (ltb left cost) refl
+  where
+    go : (y : Bool) → ltb left cost ≡ y → Again q Done left used cost
+    go true t = done-not-stopped 21 n (sym h ∙ ap (λ (r : Ran). r .outcome) (e ∙ ap (λ (b : Bool). cond b (ran (Stopped 21 n) left used) (ran Done (left - cost) used)) t))
+    go false t =
+        let same : q ≡ ran Done (left - cost) used = e ∙ ap (λ (b : Bool). cond b (ran (Stopped 21 n) left used) (ran Done (left - cost) used)) t in
+        record { done-is = refl; enough = ltb-false left cost t; left-is = ap (λ (r : Ran). r .left) same; used-is = ap (λ (r : Ran). r .used) same }
+paid-again {q} (Stopped number node) left used n cost e h = done-not-stopped number node (sym h ∙ ap (λ (r : Ran). r .outcome) e)
+
+-- the body stopped, or the next test cannot be paid
+pub paid-over : {A : Type 0} {q : Ran} (outcome : Outcome) (left used n cost : ℕ) {number node : ℕ} → q ≡ paid outcome left used n cost
+    → q .outcome ≡ Stopped number node → ((number node : ℕ) → outcome ≡ Stopped number node → q ≡ ran outcome left used → A)
+    → (outcome ≡ Done → left < cost → q ≡ ran (Stopped 21 n) left used → A) → A
+unfolding paid
+paid-over {A} {q} Done left used n cost {number} {node} e h stopped unpaid = go (ltb left cost) refl
+  where
+    go : (y : Bool) → ltb left cost ≡ y → A
+    go true t = unpaid refl (ltb-true left cost t) (e ∙ ap (λ (b : Bool). cond b (ran (Stopped 21 n) left used) (ran Done (left - cost) used)) t)
+    go false t = done-not-stopped number node
+        (sym (ap (λ (r : Ran). r .outcome) (e ∙ ap (λ (b : Bool). cond b (ran (Stopped 21 n) left used) (ran Done (left - cost) used)) t)) ∙ h)
+paid-over (Stopped number node) left used n cost e h stopped unpaid = stopped number node refl e
 
 -- which way a test goes
 stays : (z : ℤ) (m k : M (Unit {0})) (s : State) → is-zero z ≡ false → choose z m k s ≡ m s
@@ -129,12 +174,12 @@ module _ (file : List ℕ) (user above n : ℕ) where
         ∙ ap (λ (j : ℕ). Evaluates file a fuel >>= turn ctx j fuel) (sym eb)
 
     module _ {vars : ℕ → Lab ℤ} {x : Store} {left used : ℕ} {g : Valued} (d : Gives (Evaluates file a) (cells x) vars left g) where
-      pub test-stops : {r : Ran} {number i : ℕ} → g .answer ≡ value.Stopped number i → r ≡ ran (stop-of (g .answer)) (g .left) used
+      test-stops : {r : Ran} {number i : ℕ} → g .answer ≡ value.Stopped number i → r ≡ ran (stop-of (g .answer)) (g .left) used
           → used ≤ length (x .trace) → Does (Commands file ctx user above n) vars x left used r vars x
       test-stops e q u = does-as while-is (value-stops d (turn ctx b) _ _ e q u)
 
       module _ {z : ℤ} (e : g .answer ≡ value.Known z) where
-        pub test-ends : {r : Ran} → is-zero z ≡ true → r ≡ ran Done (g .left) used → used ≤ length (x .trace)
+        test-ends : {r : Ran} → is-zero z ≡ true → r ≡ ran Done (g .left) used → used ≤ length (x .trace)
             → Does (Commands file ctx user above n) vars x left used r vars x
         unfolding turn ended
         test-ends o q u = does-as while-is (value-goes d (turn ctx b) z e
@@ -150,18 +195,18 @@ module _ (file : List ℕ) (user above n : ℕ) where
               (λ i s. stays z (Enters file wider user above b fuel >> Enters file wider user above n fuel) (ret tt) s o i)
               ∙ ap (λ (c : Label). Enters file c user above b fuel >> Enters file c user above n fuel) (sym ei)
 
-          pub body-stops : {number i : ℕ} → r .outcome ≡ Stopped number i → Does (Commands file ctx user above n) vars x left used r vars' x'
+          body-stops : {number i : ℕ} → r .outcome ≡ Stopped number i → Does (Commands file ctx user above n) vars x left used r vars' x'
           body-stops h = does-as while-is (value-goes d (turn ctx b) z e (does-as turn-is (then-stops (Enters file inner user above n) w _ _ h)))
 
           module _ (h : r .outcome ≡ Done) {cost : ℕ} (ec : cost ≡ cost-at (script-of file) n) where
             -- the next test cannot be paid
-            pub body-ends : {r' : Ran} → r .left < cost → r' ≡ ran (Stopped 21 n) (r .left) (r .used)
+            body-ends : {r' : Ran} → r .left < cost → r' ≡ ran (Stopped 21 n) (r .left) (r .used)
                 → Does (Commands file ctx user above n) vars x left used r' vars' x'
             body-ends l q = does-as while-is (value-goes d (turn ctx b) z e
                 (does-as turn-is (then-goes w h (enters-not file inner user above n ec l q (omega (arith, w .fits, same-trace w))))))
 
             -- the next test is paid
-            pub body-turns : cost ≤ r .left → Turned file user above n ctx vars x left used inner vars' x' (r .left - cost) (r .used)
+            body-turns : cost ≤ r .left → Turned file user above n ctx vars x left used inner vars' x' (r .left - cost) (r .used)
             body-turns l = record {
               records = w .records;
               rest = λ fuel q. pred fuel;
@@ -178,3 +223,55 @@ module _ (file : List ℕ) (user above n : ℕ) where
               fits = w .fits;
               within = omega (arith, d .within, w .within);
             }
+
+  -- ---- what the code of a turn does
+
+  module _ (kind : node .kind ≡ 20) (ctx : Label) {vars : ℕ → Lab ℤ} (x : Store) {left : ℕ} (used : ℕ) {r : Decided} (d : Decides file ctx n (cells x) vars left r) where
+    led-is : r .next ≡ leads node (d .given .answer)
+    led-is = ap (λ (y : Decided). y .next) (d .is)
+
+    left-is : r .left ≡ d .given .left
+    left-is = ap (λ (y : Decided). y .left) (d .is)
+
+    -- the test leads to the end
+    pub turn-ends : {q : Ran} {outcome : Outcome} → r .next ≡ End outcome → q ≡ ran (end-of (r .next)) (r .left) used → used ≤ length (x .trace)
+        → Does (Commands file ctx user above n) vars x left used q vars x
+    unfolding leads end-of stop-of
+    turn-ends {q} e h u = while-ends node kind (d .given .answer) (sym led-is ∙ e)
+        (λ number i s. test-stops kind refl refl ctx (d .gives) s
+        (h ∙ λ j. ran ((ap end-of (led-is ∙ ap (leads node) s) ∙ ap stop-of (sym s)) j) (left-is j) used) u)
+        (λ z s zero-is led. test-ends kind refl refl ctx (d .gives) s zero-is (h ∙ λ j. ran (ap end-of (led-is ∙ led) j) (left-is j) used) u)
+
+    module _ {b : ℕ} (e : r .next ≡ Enter b) where
+      turns : Turns node kind (d .given .answer) b
+      turns = while-goes node kind (d .given .answer) (sym led-is ∙ e)
+
+      pub body-is : b ≡ node .b
+      body-is = turns .way-is
+
+      module _ {q : Ran} {vars' : ℕ → Lab ℤ} {x' : Store} (w : Does (Enters file (r .inner) user above b) vars x (r .left) used q vars' x') where
+        w' : Does (Enters file (r .inner) user above b) vars x (d .given .left) used q vars' x'
+        w' = subst (λ (l : ℕ). Does (Enters file (r .inner) user above b) vars x l used q vars' x') left-is w
+
+        inner-is : r .inner ≡ union ctx (d .given .label)
+        inner-is = ap (λ (y : Decided). y .inner) (d .is)
+
+        module _ {cost : ℕ} (ec : cost ≡ cost-at (script-of file) n) {q' : Ran} (p : q' ≡ paid (q .outcome) (q .left) (q .used) n cost) where
+          -- the while is over after its body
+          pub turn-stops : {number i : ℕ} → q' .outcome ≡ Stopped number i → Does (Commands file ctx user above n) vars x left used q' vars' x'
+          turn-stops h = paid-over (q .outcome) (q .left) (q .used) n cost p h
+              (λ number i s same. subst (λ (a : Ran). Does (Commands file ctx user above n) vars x left used a vars' x') (sym same)
+              (body-stops kind refl body-is ctx (d .gives) (turns .is) (turns .other) inner-is w' s))
+              (λ s l same. body-ends kind refl body-is ctx (d .gives) (turns .is) (turns .other) inner-is w' s ec l same)
+
+          module _ (h : q' .outcome ≡ Done) where
+            again : Again q' (q .outcome) (q .left) (q .used) cost
+            again = paid-again (q .outcome) (q .left) (q .used) n cost p h
+
+            pub turn-less : q' .left < left
+            turn-less = omega (arith, again .left-is, again .enough, entry-costs file ctx user above n ec, w .within, left-is, d .gives .within)
+
+            pub turn-goes : Turned file user above n ctx vars x left used (r .inner) vars' x' (q' .left) (q' .used)
+            turn-goes = subst (λ (k : ℕ). Turned file user above n ctx vars x left used (r .inner) vars' x' k (q' .used)) (sym (again .left-is))
+                (subst (λ (k : ℕ). Turned file user above n ctx vars x left used (r .inner) vars' x' (q .left - cost) k) (sym (again .used-is))
+                (body-turns kind refl body-is ctx (d .gives) (turns .is) (turns .other) inner-is w' (again .done-is) ec (again .enough)))

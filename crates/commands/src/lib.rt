@@ -3,18 +3,39 @@ use machine::Outcome;
 use machine::Posted;
 use machine::Ran;
 use machine::Value;
-use machine::Valued;
 ghost use mathlib.Core.Path.{_≡_};
-ghost use Prim.Native.Nat.{_+_, _<_};
-ghost use Rattle.book.specs.Layout.{decode};
-ghost use Rattle.book.specs.Kinds.{command};
-ghost use Rattle.book.specs.Refusals.{node-at};
+ghost use mathlib.Core.Bool.{true};
+ghost use Prim.Native.Nat.{_+_, _-_, _<_};
+ghost use lib.ListN.{getD};
+ghost use Rattle.book.specs.Layout.{count, section, decode};
+ghost use Rattle.book.specs.Kinds.{command, between};
+ghost use Rattle.book.specs.Refusals.{node-at, verdict};
+ghost use Rattle.book.specs.declared.Verdict.the-variants.{Accepted};
 ghost use Rattle.monitor.specs.Call.{cells-of};
 ghost use Rattle.machine.specs.Ready.{Ready, Lengths, Node, Lent};
 ghost use Rattle.machine.specs.Store.{vars-of, store, cell};
-ghost use Rattle.machine.specs.Promises.{Gives, Does, DoesAside, Enters, Commands};
+ghost use Rattle.machine.specs.Promises.{ran, Does, DoesAside, Enters, Commands};
 ghost use Rattle.machine.specs.Writes.{key-of, Fires};
-ghost use Rattle.commands.specs.Amounts.{chosen-field, NewAmount};
+ghost use Rattle.commands.specs.Parts.{leads, end-of, Decides, paid, first-fitting};
+
+// Where a test leads, or the stop on the way: a command to enter, or the end of the command whose test it is.
+pub enum Next {
+    Enter(usize),
+    End(Outcome),
+}
+
+// A test: where it leads, what is left of the budget, and the context with the test's label.
+pub struct Decided {
+    pub next: Next,
+    pub left: u32,
+    pub inner: [u64; 8],
+}
+
+// The first trigger that fits a write: its number, its user and its body.
+pub enum Fitting {
+    None,
+    Trigger(usize, usize, usize),
+}
 
 // Executes command `n`: pays its cost, or stops with 21, and does what its kind says.
 pub fn exec(
@@ -50,60 +71,96 @@ pub fn exec(
     }
     let rest = left - cost;
     match kind {
-        17 => assignments::assign(
-            file,
-            nodes,
-            costs,
-            n,
-            rest,
-            ctx,
-            vars,
-            tags,
-            amounts,
-            presence,
-            labels,
-            used,
-        ),
-        18 => sequence(
-            file,
-            nodes,
-            costs,
-            public,
-            n,
-            above,
-            user,
-            rest,
-            ctx,
-            read,
-            write,
-            vars,
-            tags,
-            amounts,
-            presence,
-            labels,
-            trace,
-            used,
-        ),
-        19 => branch(
-            file,
-            nodes,
-            costs,
-            public,
-            n,
-            above,
-            user,
-            rest,
-            ctx,
-            read,
-            write,
-            vars,
-            tags,
-            amounts,
-            presence,
-            labels,
-            trace,
-            used,
-        ),
+        // a then b
+        18 => {
+            let a = numbers::u16_at(file, nodes + 16 * n + 2);
+            let first = exec(
+                file,
+                nodes,
+                costs,
+                public,
+                a,
+                above,
+                user,
+                rest,
+                ctx,
+                read,
+                write,
+                vars,
+                tags,
+                amounts,
+                presence,
+                labels,
+                trace,
+                used,
+            );
+            let outcome = first.outcome;
+            let Outcome::Done = outcome else {
+                return first;
+            };
+            let b = numbers::u16_at(file, nodes + 16 * n + 4);
+            exec(
+                file,
+                nodes,
+                costs,
+                public,
+                b,
+                above,
+                user,
+                first.left,
+                ctx,
+                read,
+                write,
+                vars,
+                tags,
+                amounts,
+                presence,
+                labels,
+                trace,
+                first.used,
+            )
+        }
+        // if a nonzero then b else c; inside, the context gains the condition's label
+        19 => {
+            let test = decide(
+                file,
+                nodes,
+                costs,
+                n,
+                rest,
+                ctx,
+                vars,
+                tags,
+                amounts,
+                presence,
+                labels,
+            );
+            let next = test.next;
+            let Next::Enter(way) = next else {
+                return ended(next, test.left, used);
+            };
+            let inner = test.inner;
+            exec(
+                file,
+                nodes,
+                costs,
+                public,
+                way,
+                above,
+                user,
+                test.left,
+                &inner,
+                read,
+                write,
+                vars,
+                tags,
+                amounts,
+                presence,
+                labels,
+                trace,
+                used,
+            )
+        }
         20 => repeat(
             file,
             nodes,
@@ -124,7 +181,7 @@ pub fn exec(
             trace,
             used,
         ),
-        21 => post(
+        21 | 22 => post(
             file,
             nodes,
             costs,
@@ -134,7 +191,7 @@ pub fn exec(
             user,
             rest,
             ctx,
-            1,
+            kind - 20,
             read,
             write,
             vars,
@@ -145,17 +202,15 @@ pub fn exec(
             trace,
             used,
         ),
-        22 => post(
+        _ => actions::act(
             file,
             nodes,
             costs,
             public,
             n,
-            above,
             user,
             rest,
             ctx,
-            2,
             read,
             write,
             vars,
@@ -166,158 +221,27 @@ pub fn exec(
             trace,
             used,
         ),
-        23 => outputs::out(
-            file,
-            nodes,
-            costs,
-            public,
-            n,
-            rest,
-            ctx,
-            read,
-            vars,
-            tags,
-            amounts,
-            presence,
-            labels,
-            trace,
-            used,
-        ),
-        24 => grants::change(
-            file,
-            nodes,
-            costs,
-            public,
-            n,
-            user,
-            rest,
-            ctx,
-            read,
-            write,
-            trace,
-            used,
-        ),
-        25 => grants::change(
-            file,
-            nodes,
-            costs,
-            public,
-            n,
-            user,
-            rest,
-            ctx,
-            read,
-            write,
-            trace,
-            used,
-        ),
-        26 => assignments::raise(file, nodes, costs, n, rest, ctx, vars, tags, used),
-        _ => machine::finished(rest, used),
     }
 }
 
-// 18: a then b.
-fn sequence(
+// The test of 19 and 20: a nonzero leads to b; zero leads an if to c, and a while to its end.
+fn decide(
     file: &[u8],
     nodes: usize,
     costs: &[u32; 27],
-    public: &[u64; 8],
     n: usize,
-    above: usize,
-    user: usize,
     left: u32,
     ctx: &[u64; 8],
-    read: &mut [[u64; 8]; 8],
-    write: &mut [[u64; 8]; 8],
-    vars: &mut [i32; 16],
-    tags: &mut [u64; 128],
-    amounts: &mut [i32],
-    presence: &mut [u64],
-    labels: &mut [u64],
-    trace: &mut [u8],
-    used: usize,
-) -> Ran
-    requires { ⌜ Lent (now file) nodes (now costs) (now public) (now amounts) (now presence) (now labels) (now trace) used ⌝ }
-    requires { ⌜ Node command (now file) n × (user < 8) × (node-at (decode (now file)) n .kind ≡ 18) ⌝ }
-    ensures { λ r. ⌜ Does (Commands (now (file .entry)) (now (ctx .entry)) user above n) (vars-of (now (vars .entry)) (now (tags .entry)))
-        (store (now (amounts .entry)) (now (presence .entry)) (now (labels .entry)) (now (read .entry)) (now (write .entry)) (now (trace .entry))) left used r (vars-of (now (vars .exit)) (now (tags .exit)))
-        (store (now (amounts .exit)) (now (presence .exit)) (now (labels .exit)) (now (read .exit)) (now (write .exit)) (now (trace .exit))) ⌝ }
-{
-    let at = nodes + 16 * n;
-    let a = numbers::u16_at(file, at + 2);
-    let first = exec(
-        file,
-        nodes,
-        costs,
-        public,
-        a,
-        above,
-        user,
-        left,
-        ctx,
-        read,
-        write,
-        vars,
-        tags,
-        amounts,
-        presence,
-        labels,
-        trace,
-        used,
-    );
-    let outcome = first.outcome;
-    let Outcome::Done = outcome else {
-        return first;
-    };
-    let b = numbers::u16_at(file, at + 4);
-    exec(
-        file,
-        nodes,
-        costs,
-        public,
-        b,
-        above,
-        user,
-        first.left,
-        ctx,
-        read,
-        write,
-        vars,
-        tags,
-        amounts,
-        presence,
-        labels,
-        trace,
-        first.used,
-    )
-}
-
-// 19: if a nonzero then b else c; inside, the context gains the condition's label.
-fn branch(
-    file: &[u8],
-    nodes: usize,
-    costs: &[u32; 27],
-    public: &[u64; 8],
-    n: usize,
-    above: usize,
-    user: usize,
-    left: u32,
-    ctx: &[u64; 8],
-    read: &mut [[u64; 8]; 8],
-    write: &mut [[u64; 8]; 8],
-    vars: &mut [i32; 16],
-    tags: &mut [u64; 128],
-    amounts: &mut [i32],
-    presence: &mut [u64],
-    labels: &mut [u64],
-    trace: &mut [u8],
-    used: usize,
-) -> Ran
-    requires { ⌜ Lent (now file) nodes (now costs) (now public) (now amounts) (now presence) (now labels) (now trace) used ⌝ }
-    requires { ⌜ Node command (now file) n × (user < 8) × (node-at (decode (now file)) n .kind ≡ 19) ⌝ }
-    ensures { λ r. ⌜ Does (Commands (now (file .entry)) (now (ctx .entry)) user above n) (vars-of (now (vars .entry)) (now (tags .entry)))
-        (store (now (amounts .entry)) (now (presence .entry)) (now (labels .entry)) (now (read .entry)) (now (write .entry)) (now (trace .entry))) left used r (vars-of (now (vars .exit)) (now (tags .exit)))
-        (store (now (amounts .exit)) (now (presence .exit)) (now (labels .exit)) (now (read .exit)) (now (write .exit)) (now (trace .exit))) ⌝ }
+    vars: &[i32; 16],
+    tags: &[u64; 128],
+    amounts: &[i32],
+    presence: &[u64],
+    labels: &[u64],
+) -> Decided
+    requires { ⌜ Ready (now file) nodes (now costs) × Lengths (now amounts) (now presence) (now labels) ⌝ }
+    requires { ⌜ Node command (now file) n × (between 19 20 (node-at (decode (now file)) n .kind) ≡ true) ⌝ }
+    ensures { λ r. ⌜ Decides (now (file .entry)) (now (ctx .entry)) n (cells-of (now (amounts .entry)) (now (presence .entry)) (now (labels .entry)))
+        (vars-of (now (vars .entry)) (now (tags .entry))) left r ⌝ }
 {
     let at = nodes + 16 * n;
     let test = expressions::eval(
@@ -333,43 +257,49 @@ fn branch(
         labels,
     );
     let answer = test.answer;
-    let Value::Known(value) = answer else {
-        return machine::failed(answer, test.left, used);
-    };
+    let next = led(file, nodes, n, answer);
     let context = *ctx;
     let label = test.label;
     let inner = places::union(context, label);
-    let way = numbers::u16_at(file, at + chosen(value));
-    exec(
-        file,
-        nodes,
-        costs,
-        public,
-        way,
-        above,
-        user,
-        test.left,
-        &inner,
-        read,
-        write,
-        vars,
-        tags,
-        amounts,
-        presence,
-        labels,
-        trace,
-        used,
-    )
+    Decided {
+        next,
+        left: test.left,
+        inner,
+    }
 }
 
-// Where an if names the command that it goes on with.
-fn chosen(value: i32) -> usize
-    ensures { λ r. ⌜ r ≡ chosen-field value ⌝ }
+// Where the value of its test leads an if or a while.
+fn led(file: &[u8], nodes: usize, n: usize, answer: Value) -> Next
+    requires { ⌜ (verdict (now file) ≡ Accepted) × (nodes ≡ section (now file) 3 .start) × (n < count (now file) 3) ⌝ }
+    ensures { λ r. ⌜ r ≡ leads (node-at (decode (now (file .entry))) n) answer ⌝ }
 {
-    if value == 0 {
-        return 6;
+    match answer {
+        Value::Stopped(number, node) => Next::End(Outcome::Stopped(number, node)),
+        Value::Known(value) => {
+            let at = nodes + 16 * n;
+            if value != 0 {
+                return Next::Enter(numbers::u16_at(file, at + 4));
+            }
+            if file[at] == 20 {
+                return Next::End(Outcome::Done);
+            }
+            Next::Enter(numbers::u16_at(file, at + 6))
+        }
     }
-    4
+}
+
+// The end that a test leads to.
+fn ended(next: Next, left: u32, used: usize) -> Ran
+    ensures { λ r. ⌜ r ≡ ran (end-of next) left used ⌝ }
+{
+    match next {
+        Next::Enter(_) => machine::finished(left, used),
+        Next::End(outcome) => Ran {
+            outcome,
+            left,
+            used,
+        },
+    }
 }
 
 // 20: while a nonzero do b, a loop; its cost is paid anew for each test, and the context has the labels of all tests so far.
@@ -399,42 +329,35 @@ fn repeat(
         (store (now (amounts .entry)) (now (presence .entry)) (now (labels .entry)) (now (read .entry)) (now (write .entry)) (now (trace .entry))) left used r (vars-of (now (vars .exit)) (now (tags .exit)))
         (store (now (amounts .exit)) (now (presence .exit)) (now (labels .exit)) (now (read .exit)) (now (write .exit)) (now (trace .exit))) ⌝ }
 {
-    let at = nodes + 16 * n;
-    let a = numbers::u16_at(file, at + 2);
-    let b = numbers::u16_at(file, at + 4);
-    let cost = costs[20];
     let mut inner = *ctx;
     let mut rest = left;
     let mut written = used;
     loop {
-        let test = expressions::eval(
+        let test = decide(
             file,
             nodes,
             costs,
-            a,
+            n,
             rest,
+            &inner,
             vars,
             tags,
             amounts,
             presence,
             labels,
         );
-        let answer = test.answer;
-        let Value::Known(value) = answer else {
-            return machine::failed(answer, test.left, written);
+        let next = test.next;
+        let Next::Enter(body) = next else {
+            return ended(next, test.left, written);
         };
-        if value == 0 {
-            return machine::finished(test.left, written);
-        }
-        let label = test.label;
-        let wider = places::union(inner, label);
+        let wider = test.inner;
         inner = wider;
-        let body = exec(
+        let ran = exec(
             file,
             nodes,
             costs,
             public,
-            b,
+            body,
             above,
             user,
             test.left,
@@ -449,57 +372,30 @@ fn repeat(
             trace,
             written,
         );
-        let outcome = body.outcome;
+        let turned = pay(ran, n, costs);
+        let outcome = turned.outcome;
         let Outcome::Done = outcome else {
-            return body;
+            return turned;
         };
-        rest = body.left;
-        written = body.used;
-        if rest < cost {
-            return machine::stopped(21, n, rest, written);
-        }
-        rest = rest - cost;
+        rest = turned.left;
+        written = turned.used;
     }
 }
 
-// The amount that a put writes, or 0 of empty label for a clear.
-fn new_amount(
-    file: &[u8],
-    nodes: usize,
-    costs: &[u32; 27],
-    n: usize,
-    event: u8,
-    left: u32,
-    vars: &[i32; 16],
-    tags: &[u64; 128],
-    amounts: &[i32],
-    presence: &[u64],
-    labels: &[u64],
-) -> Valued
-    requires { ⌜ Ready (now file) nodes (now costs) × Lengths (now amounts) (now presence) (now labels) ⌝ }
-    requires { ⌜ Node command (now file) n × (node-at (decode (now file)) n .kind ≡ 20 + event) ⌝ }
-    ensures { λ r. ⌜ Gives (NewAmount (now (file .entry)) n event) (cells-of (now (amounts .entry)) (now (presence .entry)) (now (labels .entry)))
-        (vars-of (now (vars .entry)) (now (tags .entry))) left r ⌝ }
+// The end of a while's body, and the cost of the next test.
+fn pay(body: Ran, n: usize, costs: &[u32; 27]) -> Ran
+    ensures { λ r. ⌜ r ≡ paid (body .outcome) (body .left) (body .used) n (getD (now (costs .entry)) 20 0) ⌝ }
 {
-    if event == 1 {
-        return expressions::eval(
-            file,
-            nodes,
-            costs,
-            numbers::u16_at(file, nodes + 16 * n + 6),
-            left,
-            vars,
-            tags,
-            amounts,
-            presence,
-            labels,
-        );
+    let outcome = body.outcome;
+    let Outcome::Done = outcome else {
+        return body;
+    };
+    let cost = costs[20];
+    let left = body.left;
+    if left < cost {
+        return machine::stopped(21, n, left, body.used);
     }
-    Valued {
-        answer: Value::Known(0),
-        left,
-        label: [0u64; 8],
-    }
+    machine::finished(left - cost, body.used)
 }
 
 // 21 put and 22 clear (event 1 and 2): the key and the amount, the write, and the triggers in context plus key label.
@@ -530,93 +426,40 @@ fn post(
         (store (now (amounts .entry)) (now (presence .entry)) (now (labels .entry)) (now (read .entry)) (now (write .entry)) (now (trace .entry))) left used r (vars-of (now (vars .exit)) (now (tags .exit)))
         (store (now (amounts .exit)) (now (presence .exit)) (now (labels .exit)) (now (read .exit)) (now (write .exit)) (now (trace .exit))) ⌝ }
 {
-    let at = nodes + 16 * n;
-    let x = expressions::eval(
-        file,
-        nodes,
-        costs,
-        numbers::u16_at(file, at + 2),
-        left,
-        vars,
-        tags,
-        amounts,
-        presence,
-        labels,
-    );
-    let first = x.answer;
-    let Value::Known(owner) = first else {
-        return machine::failed(first, x.left, used);
-    };
-    let y = expressions::eval(
-        file,
-        nodes,
-        costs,
-        numbers::u16_at(file, at + 4),
-        x.left,
-        vars,
-        tags,
-        amounts,
-        presence,
-        labels,
-    );
-    let second = y.answer;
-    let Value::Known(line) = second else {
-        return machine::failed(second, y.left, used);
-    };
-    let z = new_amount(
+    let posting = puts::post(
         file,
         nodes,
         costs,
         n,
-        event,
-        y.left,
-        vars,
-        tags,
-        amounts,
-        presence,
-        labels,
-    );
-    let third = z.answer;
-    let Value::Known(amount) = third else {
-        return machine::failed(third, z.left, used);
-    };
-    let x_label = x.label;
-    let y_label = y.label;
-    let key_label = places::union(x_label, y_label);
-    let context = *ctx;
-    let inner = places::union(context, key_label);
-    let label = z.label;
-    let table = numbers::byte_at(file, at + 1);
-    let posted = postings::post(
-        n,
-        &inner,
         user,
-        table,
-        owner,
-        line,
+        left,
+        ctx,
         event,
-        amount,
-        &label,
         write,
+        vars,
+        tags,
         amounts,
         presence,
         labels,
     );
+    let posted = posting.posted;
+    let inner = posting.inner;
+    let label = posting.label;
     match posted {
-        Posted::Stopped(number, node) => machine::stopped(number, node, z.left, used),
+        Posted::Stopped(number, node) => machine::stopped(number, node, posting.left, used),
         Posted::At(place) => fire(
             file,
             nodes,
             costs,
             public,
             above,
-            z.left,
+            posting.left,
             &inner,
             event,
             place,
-            owner,
-            line,
-            amount,
+            posting.owner,
+            posting.line,
+            posting.amount,
             &label,
             read,
             write,
@@ -658,42 +501,14 @@ fn fire(
         (store (now (amounts .entry)) (now (presence .entry)) (now (labels .entry)) (now (read .entry)) (now (write .entry)) (now (trace .entry))) left used r
         (store (now (amounts .exit)) (now (presence .exit)) (now (labels .exit)) (now (read .exit)) (now (write .exit)) (now (trace .exit))) ⌝ }
 {
-    let triggers = book::section_at(file, 5);
-    if triggers.count <= t {
+    let next = next_fitting(file, t, event, place);
+    let Fitting::Trigger(number, user, body) = next else {
         return machine::finished(left, used);
-    }
-    let fitting = triggers::fits(file, t, event, place);
-    if !fitting {
-        return fire(
-            file,
-            nodes,
-            costs,
-            public,
-            t + 1,
-            left,
-            ctx,
-            event,
-            place,
-            owner,
-            line,
-            amount,
-            label,
-            read,
-            write,
-            amounts,
-            presence,
-            labels,
-            trace,
-            used,
-        );
-    }
+    };
     let own = triggers::variables(ctx, owner, line, event, amount, label);
     let mut vars = own.values;
     let mut tags = own.tags;
-    let at = triggers.start + 8 * t;
-    let user = numbers::byte_at(file, at + 2);
-    let body = numbers::u16_at(file, at + 4);
-    let above = t + 1;
+    let above = number + 1;
     let ran = exec(
         file,
         nodes,
@@ -723,7 +538,7 @@ fn fire(
         nodes,
         costs,
         public,
-        t + 1,
+        above,
         ran.left,
         ctx,
         event,
@@ -739,5 +554,26 @@ fn fire(
         labels,
         trace,
         ran.used,
+    )
+}
+
+// The first trigger from number `t` on that fits the write of the cell at `place`.
+fn next_fitting(file: &[u8], t: usize, event: u8, place: usize) -> Fitting
+    requires { ⌜ (verdict (now file) ≡ Accepted) × (place < 512) ⌝ }
+    ensures { λ r. ⌜ r ≡ first-fitting (now (file .entry)) event place (count (now (file .entry)) 5 - t) t ⌝ }
+{
+    let triggers = book::section_at(file, 5);
+    if triggers.count <= t {
+        return Fitting::None;
+    }
+    let fits = triggers::fits(file, t, event, place);
+    if !fits {
+        return next_fitting(file, t + 1, event, place);
+    }
+    let at = triggers.start + 8 * t;
+    Fitting::Trigger(
+        t,
+        numbers::byte_at(file, at + 2),
+        numbers::u16_at(file, at + 4),
     )
 }

@@ -41,7 +41,7 @@ impl Outcome {
             trace: Vec::new(),
         };
         let loaded = load(&case.file, &mut memory);
-        let mut output = vec![OUTPUT; case.lent.output.into()];
+        let mut output = vec![OUTPUT; case.lent.output as usize];
         let (amounts, presence) = cells(case, &memory);
         let written = write(&case.file, &amounts, &presence, &mut output);
         Outcome {

@@ -59,7 +59,7 @@ impl fmt::Display for Outcome {
 
 /// The memory that a case lends.
 fn drawn(case: &Case) -> Memory {
-    let mut draws = Draws::new(case.seed.into());
+    let mut draws = Draws::new(case.seed);
     Memory {
         amounts: draws.amounts(case.lent.amounts.into()),
         presence: draws.words(case.lent.presence.into()),

@@ -1,0 +1,53 @@
+// A case for the runner. All that is lent is drawn from the seed, so that what is left alone shows. Its line: the answer's
+// number, node or index, cost and trace bytes; digests of amounts, presence, labels and trace.
+
+// Draws all that is lent.
+fn draw(
+    amounts: &mut [i32],
+    presence: &mut [u64],
+    labels: &mut [u64],
+    trace: &mut [u8],
+    seed: u32,
+) {
+    let after_amounts = case_lines::draw_amounts(amounts, seed);
+    let after_presence = case_lines::draw_words(presence, after_amounts);
+    let after_labels = case_lines::draw_words(labels, after_presence);
+    case_lines::draw_bytes(trace, after_labels);
+}
+
+// The four numbers of an answer: 0 where it has none.
+fn numbers_of(answer: monitor::Answer) -> [usize; 4] {
+    match answer {
+        monitor::Answer::Refused(number, index) => [number as usize, index, 0, 0],
+        monitor::Answer::Stopped(number, node, cost, bytes) => {
+            [number as usize, node, cost as usize, bytes]
+        }
+        monitor::Answer::Finished(cost, bytes) => [0, 0, cost as usize, bytes],
+    }
+}
+
+// Prints the four numbers of an answer.
+fn print_answer(answer: monitor::Answer) {
+    let numbers = numbers_of(answer);
+    case_lines::print(numbers[0]);
+    case_lines::print(numbers[1]);
+    case_lines::print(numbers[2]);
+    case_lines::print(numbers[3]);
+}
+
+// Does a case and prints its line.
+pub fn case(
+    file: &[u8],
+    budget: u32,
+    amounts: &mut [i32],
+    presence: &mut [u64],
+    labels: &mut [u64],
+    trace: &mut [u8],
+    seed: u32,
+) {
+    draw(amounts, presence, labels, trace, seed);
+    let answer = runner::run(file, budget, amounts, presence, labels, trace);
+    print_answer(answer);
+    case_lines::print_cells(amounts, presence, labels);
+    case_lines::print_last(trace);
+}

@@ -1,0 +1,55 @@
+-- The parts of commands that the code takes apart.
+use mathlib.Core.Path.{_≡_}
+use mathlib.Core.List.{List}
+use mathlib.Core.Bool.{cond}
+use Prim.Native.Nat.{ℕ, zero, suc, _-_}
+use lib.Dec.{eqb, ltb}
+use lib.IntN.{ℤ}
+use Rattle.places.specs.Sets.{union}
+use Rattle.book.specs.Records.{NodeRecord}
+use Rattle.book.specs.Layout.{decode}
+use Rattle.book.specs.Refusals.{node-at, is-zero}
+use Rattle.monitor.specs.Labelled.{Label, Lab}
+use Rattle.monitor.specs.Run.{Cell}
+use Rattle.monitor.specs.Rules.{trigger-at, fitting}
+use Rattle.machine.specs.Ready.{script-of}
+use Rattle.machine.specs.Promises.{Gives, Evaluates, ran}
+use Rattle.machine.specs.declared.Value.{Value}
+use Rattle.machine.specs.declared.Value.the-variants as value
+use Rattle.machine.specs.declared.Valued.{Valued}
+use Rattle.machine.specs.declared.Outcome.{Outcome}
+use Rattle.machine.specs.declared.Outcome.the-variants.{Done, Stopped}
+use Rattle.machine.specs.declared.Ran.{Ran}
+use Rattle.commands.specs.declared.Next.{Next}
+use Rattle.commands.specs.declared.Next.the-variants.{Enter, End}
+use Rattle.commands.specs.declared.Decided.{Decided}
+use Rattle.commands.specs.declared.Fitting.{Fitting}
+use Rattle.commands.specs.declared.Fitting.the-variants as fitted
+
+-- where the value of its test leads an if (19) or a while (20)
+unfoldable pub leads : NodeRecord → Value → Next
+leads x (value.Known z) = cond (is-zero z) (cond (eqb (x .kind) 20) (End Done) (Enter (x .c))) (Enter (x .b))
+leads x (value.Stopped number node) = End (Stopped number node)
+
+unfoldable pub end-of : Next → Outcome
+end-of (Enter way) = Done
+end-of (End outcome) = outcome
+
+-- the test of an if or a while is evaluated, and its label added to the context
+pub record Decides (file : List ℕ) (ctx : Label) (n : ℕ) (cells : ℕ → Lab Cell) (vars : ℕ → Lab ℤ) (left : ℕ) (r : Decided) : Type 0 where
+  pub given : Valued
+  pub gives : Gives (Evaluates file (node-at (decode file) n .a)) cells vars left given
+  pub is : r ≡ record { next = leads (node-at (decode file) n) (given .answer); left = given .left; inner = union ctx (given .label) }
+
+-- the end of a while's body, and where that is done the cost of the next test, paid or stopped with 21
+unfoldable pub paid : Outcome → ℕ → ℕ → ℕ → ℕ → Ran
+paid Done left used n cost = cond (ltb left cost) (ran (Stopped 21 n) left used) (ran Done (left - cost) used)
+paid (Stopped number node) left used n cost = ran (Stopped number node) left used
+
+-- the first of k triggers from number t on that fits a write: its number, user and body
+unfoldable pub first-fitting : List ℕ → ℕ → ℕ → ℕ → ℕ → Fitting
+first-fitting file event place zero t = fitted.None
+first-fitting file event place (suc k) t =
+    cond (fitting (script-of file) event place (trigger-at (script-of file) t))
+    (fitted.Trigger t (trigger-at (script-of file) t .user) (trigger-at (script-of file) t .body))
+    (first-fitting file event place k (suc t))
