@@ -1,10 +1,9 @@
 -- What a command reads of its node, and what it lends on. Assumes nothing.
-use mathlib.Core.Path.{_≡_, refl, sym, ap, _∙_, subst}
+use mathlib.Core.Path.{_≡_, sym, ap, _∙_, subst}
 use mathlib.Core.List.{List}
 use Prim.Native.Nat.{ℕ, _+_, _*_, _≤_, _<_}
-use mathlib.Core.Bool.{Bool, true, false, _&&_}
-use mathlib.Core.Logic.{_⊎_, inl, inr}
-use native.Mathlib.Decide.{ℕ-discrete}
+use mathlib.Core.Bool.{true, false, and-false}
+use native.Mathlib.Decide.{ℕ-discrete, decLt}
 use native.Mathlib.Omega.{arith}
 use lib.Dec.{leb}
 use borrow.Author.Tests.{leb-true, lt-leb}
@@ -51,14 +50,19 @@ test-node {file} {n = n} l h e = go (ℕ-discrete (node-at (decode file) n .kind
         let high = leb-true (node-at (decode file) n .kind) 20 (sides .1) in
         while-a file (l .accepted) n (h .inside) (omega (arith, low, high, d)) .node
 
--- a kind that is below 18 or above 22
-pub outside-kinds : {j k : ℕ} → k ≡ j → k < 18 ⊎ 23 ≤ k → between 18 22 j ≡ false
-outside-kinds {j} e (inl h) = rw (lt-leb 18 j (omega (arith, e, h)))
-outside-kinds {j} e (inr h) = rw (lt-leb j 22 (omega (arith, e, h))) (and-false (leb 18 j))
+from : {n k : ℕ} → (k < n → ⊥) → n ≤ k
+from h = omega arith
+
+past : {n k : ℕ} → n ≤ k → (k ≡ n → ⊥) → n + 1 ≤ k
+past h d = omega arith
+
+-- a kind that is none of 18 to 22
+pub outside-kinds : {j k : ℕ} → k ≡ j → (k ≡ 18 → ⊥) → (k ≡ 19 → ⊥) → (k ≡ 20 → ⊥) → (k ≡ 21 → ⊥) → (k ≡ 22 → ⊥) → between 18 22 j ≡ false
+outside-kinds {j} {k} e not18 not19 not20 not21 not22 = subst (λ (i : ℕ). between 18 22 i ≡ false) e (go (decLt k 18))
   where
-    and-false : (x : Bool) → x && false ≡ false
-    and-false true = refl
-    and-false false = refl
+    go : Dec (k < 18) → between 18 22 k ≡ false
+    go (yes h) = rw (lt-leb 18 k h)
+    go (no h) = rw (lt-leb k 22 (past (past (past (past (past (from h) not18) not19) not20) not21) not22)) (and-false (leb 18 k))
 
 -- ---- what is lent on
 

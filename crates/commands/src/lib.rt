@@ -71,96 +71,46 @@ pub fn exec(
     }
     let rest = left - cost;
     match kind {
-        // a then b
-        18 => {
-            let a = numbers::u16_at(file, nodes + 16 * n + 2);
-            let first = exec(
-                file,
-                nodes,
-                costs,
-                public,
-                a,
-                above,
-                user,
-                rest,
-                ctx,
-                read,
-                write,
-                vars,
-                tags,
-                amounts,
-                presence,
-                labels,
-                trace,
-                used,
-            );
-            let outcome = first.outcome;
-            let Outcome::Done = outcome else {
-                return first;
-            };
-            let b = numbers::u16_at(file, nodes + 16 * n + 4);
-            exec(
-                file,
-                nodes,
-                costs,
-                public,
-                b,
-                above,
-                user,
-                first.left,
-                ctx,
-                read,
-                write,
-                vars,
-                tags,
-                amounts,
-                presence,
-                labels,
-                trace,
-                first.used,
-            )
-        }
-        // if a nonzero then b else c; inside, the context gains the condition's label
-        19 => {
-            let test = decide(
-                file,
-                nodes,
-                costs,
-                n,
-                rest,
-                ctx,
-                vars,
-                tags,
-                amounts,
-                presence,
-                labels,
-            );
-            let next = test.next;
-            let Next::Enter(way) = next else {
-                return ended(next, test.left, used);
-            };
-            let inner = test.inner;
-            exec(
-                file,
-                nodes,
-                costs,
-                public,
-                way,
-                above,
-                user,
-                test.left,
-                &inner,
-                read,
-                write,
-                vars,
-                tags,
-                amounts,
-                presence,
-                labels,
-                trace,
-                used,
-            )
-        }
+        18 => sequence(
+            file,
+            nodes,
+            costs,
+            public,
+            n,
+            above,
+            user,
+            rest,
+            ctx,
+            read,
+            write,
+            vars,
+            tags,
+            amounts,
+            presence,
+            labels,
+            trace,
+            used,
+        ),
+        19 => branch(
+            file,
+            nodes,
+            costs,
+            public,
+            n,
+            above,
+            user,
+            rest,
+            ctx,
+            read,
+            write,
+            vars,
+            tags,
+            amounts,
+            presence,
+            labels,
+            trace,
+            used,
+        ),
         20 => repeat(
             file,
             nodes,
@@ -181,7 +131,7 @@ pub fn exec(
             trace,
             used,
         ),
-        21 | 22 => post(
+        21 => post(
             file,
             nodes,
             costs,
@@ -191,7 +141,28 @@ pub fn exec(
             user,
             rest,
             ctx,
-            kind - 20,
+            1,
+            read,
+            write,
+            vars,
+            tags,
+            amounts,
+            presence,
+            labels,
+            trace,
+            used,
+        ),
+        22 => post(
+            file,
+            nodes,
+            costs,
+            public,
+            n,
+            above,
+            user,
+            rest,
+            ctx,
+            2,
             read,
             write,
             vars,
@@ -224,82 +195,147 @@ pub fn exec(
     }
 }
 
-// The test of 19 and 20: a nonzero leads to b; zero leads an if to c, and a while to its end.
-fn decide(
+// 18: a then b.
+fn sequence(
     file: &[u8],
     nodes: usize,
     costs: &[u32; 27],
+    public: &[u64; 8],
     n: usize,
+    above: usize,
+    user: usize,
     left: u32,
     ctx: &[u64; 8],
-    vars: &[i32; 16],
-    tags: &[u64; 128],
-    amounts: &[i32],
-    presence: &[u64],
-    labels: &[u64],
-) -> Decided
-    requires { ⌜ Ready (now file) nodes (now costs) × Lengths (now amounts) (now presence) (now labels) ⌝ }
-    requires { ⌜ Node command (now file) n × (between 19 20 (node-at (decode (now file)) n .kind) ≡ true) ⌝ }
-    ensures { λ r. ⌜ Decides (now (file .entry)) (now (ctx .entry)) n (cells-of (now (amounts .entry)) (now (presence .entry)) (now (labels .entry)))
-        (vars-of (now (vars .entry)) (now (tags .entry))) left r ⌝ }
+    read: &mut [[u64; 8]; 8],
+    write: &mut [[u64; 8]; 8],
+    vars: &mut [i32; 16],
+    tags: &mut [u64; 128],
+    amounts: &mut [i32],
+    presence: &mut [u64],
+    labels: &mut [u64],
+    trace: &mut [u8],
+    used: usize,
+) -> Ran
+    requires { ⌜ Lent (now file) nodes (now costs) (now public) (now amounts) (now presence) (now labels) (now trace) used ⌝ }
+    requires { ⌜ Node command (now file) n × (user < 8) × (node-at (decode (now file)) n .kind ≡ 18) ⌝ }
+    ensures { λ r. ⌜ Does (Commands (now (file .entry)) (now (ctx .entry)) user above n) (vars-of (now (vars .entry)) (now (tags .entry)))
+        (store (now (amounts .entry)) (now (presence .entry)) (now (labels .entry)) (now (read .entry)) (now (write .entry)) (now (trace .entry))) left used r (vars-of (now (vars .exit)) (now (tags .exit)))
+        (store (now (amounts .exit)) (now (presence .exit)) (now (labels .exit)) (now (read .exit)) (now (write .exit)) (now (trace .exit))) ⌝ }
 {
     let at = nodes + 16 * n;
-    let test = expressions::eval(
+    let a = numbers::u16_at(file, at + 2);
+    let first = exec(
         file,
         nodes,
         costs,
-        numbers::u16_at(file, at + 2),
+        public,
+        a,
+        above,
+        user,
         left,
+        ctx,
+        read,
+        write,
+        vars,
+        tags,
+        amounts,
+        presence,
+        labels,
+        trace,
+        used,
+    );
+    let outcome = first.outcome;
+    let Outcome::Done = outcome else {
+        return first;
+    };
+    let b = numbers::u16_at(file, at + 4);
+    exec(
+        file,
+        nodes,
+        costs,
+        public,
+        b,
+        above,
+        user,
+        first.left,
+        ctx,
+        read,
+        write,
+        vars,
+        tags,
+        amounts,
+        presence,
+        labels,
+        trace,
+        first.used,
+    )
+}
+
+// 19: if a nonzero then b else c; inside, the context gains the condition's label.
+fn branch(
+    file: &[u8],
+    nodes: usize,
+    costs: &[u32; 27],
+    public: &[u64; 8],
+    n: usize,
+    above: usize,
+    user: usize,
+    left: u32,
+    ctx: &[u64; 8],
+    read: &mut [[u64; 8]; 8],
+    write: &mut [[u64; 8]; 8],
+    vars: &mut [i32; 16],
+    tags: &mut [u64; 128],
+    amounts: &mut [i32],
+    presence: &mut [u64],
+    labels: &mut [u64],
+    trace: &mut [u8],
+    used: usize,
+) -> Ran
+    requires { ⌜ Lent (now file) nodes (now costs) (now public) (now amounts) (now presence) (now labels) (now trace) used ⌝ }
+    requires { ⌜ Node command (now file) n × (user < 8) × (node-at (decode (now file)) n .kind ≡ 19) ⌝ }
+    ensures { λ r. ⌜ Does (Commands (now (file .entry)) (now (ctx .entry)) user above n) (vars-of (now (vars .entry)) (now (tags .entry)))
+        (store (now (amounts .entry)) (now (presence .entry)) (now (labels .entry)) (now (read .entry)) (now (write .entry)) (now (trace .entry))) left used r (vars-of (now (vars .exit)) (now (tags .exit)))
+        (store (now (amounts .exit)) (now (presence .exit)) (now (labels .exit)) (now (read .exit)) (now (write .exit)) (now (trace .exit))) ⌝ }
+{
+    let test = decide(
+        file,
+        nodes,
+        costs,
+        n,
+        left,
+        ctx,
         vars,
         tags,
         amounts,
         presence,
         labels,
     );
-    let answer = test.answer;
-    let next = led(file, nodes, n, answer);
-    let context = *ctx;
-    let label = test.label;
-    let inner = places::union(context, label);
-    Decided {
-        next,
-        left: test.left,
-        inner,
-    }
-}
-
-// Where the value of its test leads an if or a while.
-fn led(file: &[u8], nodes: usize, n: usize, answer: Value) -> Next
-    requires { ⌜ (verdict (now file) ≡ Accepted) × (nodes ≡ section (now file) 3 .start) × (n < count (now file) 3) ⌝ }
-    ensures { λ r. ⌜ r ≡ leads (node-at (decode (now (file .entry))) n) answer ⌝ }
-{
-    match answer {
-        Value::Stopped(number, node) => Next::End(Outcome::Stopped(number, node)),
-        Value::Known(value) => {
-            let at = nodes + 16 * n;
-            if value != 0 {
-                return Next::Enter(numbers::u16_at(file, at + 4));
-            }
-            if file[at] == 20 {
-                return Next::End(Outcome::Done);
-            }
-            Next::Enter(numbers::u16_at(file, at + 6))
-        }
-    }
-}
-
-// The end that a test leads to.
-fn ended(next: Next, left: u32, used: usize) -> Ran
-    ensures { λ r. ⌜ r ≡ ran (end-of next) left used ⌝ }
-{
-    match next {
-        Next::Enter(_) => machine::finished(left, used),
-        Next::End(outcome) => Ran {
-            outcome,
-            left,
-            used,
-        },
-    }
+    let next = test.next;
+    let Next::Enter(way) = next else {
+        return ended(next, test.left, used);
+    };
+    let inner = test.inner;
+    exec(
+        file,
+        nodes,
+        costs,
+        public,
+        way,
+        above,
+        user,
+        test.left,
+        &inner,
+        read,
+        write,
+        vars,
+        tags,
+        amounts,
+        presence,
+        labels,
+        trace,
+        used,
+    )
 }
 
 // 20: while a nonzero do b, a loop; its cost is paid anew for each test, and the context has the labels of all tests so far.
@@ -379,6 +415,84 @@ fn repeat(
         };
         rest = turned.left;
         written = turned.used;
+    }
+}
+
+// The test of 19 and 20: a nonzero leads to b; zero leads an if to c, and a while to its end.
+fn decide(
+    file: &[u8],
+    nodes: usize,
+    costs: &[u32; 27],
+    n: usize,
+    left: u32,
+    ctx: &[u64; 8],
+    vars: &[i32; 16],
+    tags: &[u64; 128],
+    amounts: &[i32],
+    presence: &[u64],
+    labels: &[u64],
+) -> Decided
+    requires { ⌜ Ready (now file) nodes (now costs) × Lengths (now amounts) (now presence) (now labels) ⌝ }
+    requires { ⌜ Node command (now file) n × (between 19 20 (node-at (decode (now file)) n .kind) ≡ true) ⌝ }
+    ensures { λ r. ⌜ Decides (now (file .entry)) (now (ctx .entry)) n (cells-of (now (amounts .entry)) (now (presence .entry)) (now (labels .entry)))
+        (vars-of (now (vars .entry)) (now (tags .entry))) left r ⌝ }
+{
+    let at = nodes + 16 * n;
+    let test = expressions::eval(
+        file,
+        nodes,
+        costs,
+        numbers::u16_at(file, at + 2),
+        left,
+        vars,
+        tags,
+        amounts,
+        presence,
+        labels,
+    );
+    let answer = test.answer;
+    let next = led(file, nodes, n, answer);
+    let context = *ctx;
+    let label = test.label;
+    let inner = places::union(context, label);
+    Decided {
+        next,
+        left: test.left,
+        inner,
+    }
+}
+
+// Where the value of its test leads an if or a while.
+fn led(file: &[u8], nodes: usize, n: usize, answer: Value) -> Next
+    requires { ⌜ (verdict (now file) ≡ Accepted) × (nodes ≡ section (now file) 3 .start) × (n < count (now file) 3) ⌝ }
+    ensures { λ r. ⌜ r ≡ leads (node-at (decode (now (file .entry))) n) answer ⌝ }
+{
+    match answer {
+        Value::Stopped(number, node) => Next::End(Outcome::Stopped(number, node)),
+        Value::Known(value) => {
+            let at = nodes + 16 * n;
+            if value != 0 {
+                return Next::Enter(numbers::u16_at(file, at + 4));
+            }
+            if file[at] == 20 {
+                return Next::End(Outcome::Done);
+            }
+            Next::Enter(numbers::u16_at(file, at + 6))
+        }
+    }
+}
+
+// The end that a test leads to.
+fn ended(next: Next, left: u32, used: usize) -> Ran
+    ensures { λ r. ⌜ r ≡ ran (end-of next) left used ⌝ }
+{
+    match next {
+        Next::Enter(_) => machine::finished(left, used),
+        Next::End(outcome) => Ran {
+            outcome,
+            left,
+            used,
+        },
     }
 }
 

@@ -9,8 +9,8 @@ use Rattle.commands.proofs.Orders.{decided-less}
 use Rattle.commands.proofs.Turns.{unturned, turned-trace, turned-room, turned-ends, turned-more, turn-ends, body-is, turn-stops, turn-less, turn-goes}
 use Rattle.commands.proofs.Lents.{cost-known, child-node, lengths-after, lent-after}
 use Rattle.commands.proofs.repeat.Reads as repeat
-use Rattle.commands.proofs.+exec+fire+post+repeat.Lts-repeat as repeat-lts
-use Rattle.commands.proofs.+exec+fire+post+repeat.Proof.Common.{repeat-at, repeat-cs, repeat-Inv-loop, repeat-μ-loop}
+use Rattle.commands.proofs.+branch+exec+fire+post+repeat+sequence.Lts-repeat as repeat-lts
+use Rattle.commands.proofs.+branch+exec+fire+post+repeat+sequence.Proof.Common.{repeat-at, repeat-cs, repeat-Inv-loop, repeat-μ-loop}
 
 pub repeat-loop-holds : (t : ℕ) → repeat-lts.Need-loop-holds (repeat-cs t) (repeat-at t) repeat.Post repeat-Inv-loop repeat-μ-loop
 repeat-loop-holds t c =

@@ -11,8 +11,8 @@ use Rattle.machine.specs.Writes.{key-of}
 use Rattle.commands.proofs.Firing.{found, from-found, none-left, fitting-stops, fitting-goes, fires-as, trigger-runs}
 use Rattle.commands.proofs.Lents.{lengths-after, lent-after}
 use Rattle.commands.proofs.fire.Reads as fire
-use Rattle.commands.proofs.+exec+fire+post+repeat.Lts-fire as fire-lts
-use Rattle.commands.proofs.+exec+fire+post+repeat.Proof.Common.{fire-at, fire-cs}
+use Rattle.commands.proofs.+branch+exec+fire+post+repeat+sequence.Lts-fire as fire-lts
+use Rattle.commands.proofs.+branch+exec+fire+post+repeat+sequence.Proof.Common.{fire-at, fire-cs}
 
 pub fire-next-fitting-requires : (t : ℕ) → fire-lts.Need-next-fitting-requires (fire-cs t) (fire-at t) fire.Post
 fire-next-fitting-requires t c κs =

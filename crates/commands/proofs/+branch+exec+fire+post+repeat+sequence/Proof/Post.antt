@@ -8,8 +8,8 @@ use Rattle.commands.proofs.Steps.{answers}
 use Rattle.commands.proofs.Firing.{fires-as}
 use Rattle.commands.proofs.Lents.{lengths-after, lent-after}
 use Rattle.commands.proofs.post.Reads as post
-use Rattle.commands.proofs.+exec+fire+post+repeat.Lts-post as post-lts
-use Rattle.commands.proofs.+exec+fire+post+repeat.Proof.Common.{post-at, post-cs}
+use Rattle.commands.proofs.+branch+exec+fire+post+repeat+sequence.Lts-post as post-lts
+use Rattle.commands.proofs.+branch+exec+fire+post+repeat+sequence.Proof.Common.{post-at, post-cs}
 
 pub post-post-requires : (t : ℕ) → post-lts.Need-post-requires (post-cs t) (post-at t) post.Post
 post-post-requires t c κs =

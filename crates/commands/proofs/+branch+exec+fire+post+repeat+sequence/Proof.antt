@@ -1,0 +1,186 @@
+-- The cycle of commands meets its contracts.
+mod Branch
+mod Common
+mod Exec
+mod Fire
+mod Post
+mod Repeat
+mod Sequence
+use Rattle.commands.proofs.branch.Reads as branch
+use Rattle.commands.proofs.+branch+exec+fire+post+repeat+sequence.Lts-branch as branch-lts
+use Rattle.commands.proofs.exec.Reads as exec
+use Rattle.commands.proofs.+branch+exec+fire+post+repeat+sequence.Lts-exec as exec-lts
+use Rattle.commands.proofs.fire.Reads as fire
+use Rattle.commands.proofs.+branch+exec+fire+post+repeat+sequence.Lts-fire as fire-lts
+use Rattle.commands.proofs.post.Reads as post
+use Rattle.commands.proofs.+branch+exec+fire+post+repeat+sequence.Lts-post as post-lts
+use Rattle.commands.proofs.repeat.Reads as repeat
+use Rattle.commands.proofs.+branch+exec+fire+post+repeat+sequence.Lts-repeat as repeat-lts
+use Rattle.commands.proofs.sequence.Reads as sequence
+use Rattle.commands.proofs.+branch+exec+fire+post+repeat+sequence.Lts-sequence as sequence-lts
+use Rattle.commands.proofs.+branch+exec+fire+post+repeat+sequence.{statement}
+use Rattle.commands.proofs.+branch+exec+fire+post+repeat+sequence.Tie.{close}
+use Rattle.commands.proofs.+branch+exec+fire+post+repeat+sequence.Proof.Common.{μ-branch, μ-exec, μ-fire, μ-post, μ-repeat, μ-sequence, branch-cs, branch-at, exec-cs, exec-at, fire-cs, fire-at, post-cs, post-at, repeat-cs, repeat-at, sequence-cs, sequence-at, repeat-Inv-loop, repeat-μ-loop}
+use Rattle.commands.proofs.+branch+exec+fire+post+repeat+sequence.Proof.Branch.{branch-decide-requires, branch-enum-known-next, branch-enum-told, branch-ended-requires, branch-same-length, branch-same-length-2, branch-same-length-3, branch-returns, branch-exec-requires, branch-same-length-4, branch-same-length-5, branch-same-length-6, branch-same-length-7, branch-returns-2}
+use Rattle.commands.proofs.+branch+exec+fire+post+repeat+sequence.Proof.Exec.{exec-mul-kind, exec-add-kind, exec-shared-slice-read-kind, exec-cast-cost, exec-mul-cost, exec-element-copy-out-cost, exec-stopped-requires, exec-returns, exec-sequence-requires, exec-branch-requires, exec-repeat-requires, exec-post-requires, exec-post-requires-2, exec-act-requires, exec-same-length, exec-same-length-2, exec-same-length-3, exec-same-length-4, exec-returns-2, exec-same-length-5, exec-same-length-6, exec-same-length-7, exec-same-length-8, exec-returns-3, exec-same-length-9, exec-same-length-10, exec-same-length-11, exec-same-length-12, exec-returns-4, exec-same-length-13, exec-same-length-14, exec-same-length-15, exec-same-length-16, exec-returns-5, exec-same-length-17, exec-same-length-18, exec-same-length-19, exec-same-length-20, exec-returns-6, exec-same-length-21, exec-same-length-22, exec-same-length-23, exec-same-length-24, exec-returns-7}
+use Rattle.commands.proofs.+branch+exec+fire+post+repeat+sequence.Proof.Fire.{fire-next-fitting-requires, fire-enum-known-next, fire-enum-told, fire-finished-requires, fire-returns, fire-variables-requires, fire-add-above, fire-exec-requires, fire-enum-told-2, fire-enum-told-3, fire-same-length, fire-same-length-2, fire-same-length-3, fire-same-length-4, fire-returns-2, fire-fire-requires, fire-same-length-5, fire-same-length-6, fire-same-length-7, fire-same-length-8, fire-returns-3}
+use Rattle.commands.proofs.+branch+exec+fire+post+repeat+sequence.Proof.Post.{post-post-requires, post-enum-known-posted, post-stopped-requires, post-enum-known-posted-2, post-fire-requires, post-same-length, post-same-length-2, post-same-length-3, post-returns, post-same-length-4, post-same-length-5, post-same-length-6, post-same-length-7, post-returns-2}
+use Rattle.commands.proofs.+branch+exec+fire+post+repeat+sequence.Proof.Repeat.{repeat-loop-holds, repeat-decide-requires, repeat-enum-known-next, repeat-enum-told, repeat-ended-requires, repeat-same-length, repeat-same-length-2, repeat-same-length-3, repeat-same-length-4, repeat-returns, repeat-exec-requires, repeat-pay-requires, repeat-enum-told-2, repeat-enum-told-3, repeat-same-length-5, repeat-same-length-6, repeat-same-length-7, repeat-same-length-8, repeat-returns-2, repeat-loop-less, repeat-loop-again}
+use Rattle.commands.proofs.+branch+exec+fire+post+repeat+sequence.Proof.Sequence.{sequence-mul-at, sequence-add-at, sequence-add-u16-at, sequence-u16-at-requires, sequence-exec-requires, sequence-enum-told, sequence-enum-told-2, sequence-same-length, sequence-same-length-2, sequence-same-length-3, sequence-same-length-4, sequence-returns, sequence-add-u16-at-2, sequence-u16-at-requires-2, sequence-exec-requires-2, sequence-same-length-5, sequence-same-length-6, sequence-same-length-7, sequence-same-length-8, sequence-returns-2}
+
+pub +branch+exec+fire+post+repeat+sequence-spec : {M : Type 1} → statement M
++branch+exec+fire+post+repeat+sequence-spec =
+    close μ-branch μ-exec μ-fire μ-post μ-repeat μ-sequence (λ t. branch-lts.spec (branch-cs t)
+    (branch-at t)
+    branch.Post
+    (branch-decide-requires t)
+    (branch-enum-known-next t)
+    (branch-enum-told t)
+    (branch-ended-requires t)
+    (branch-same-length t)
+    (branch-same-length-2 t)
+    (branch-same-length-3 t)
+    (branch-returns t)
+    (branch-exec-requires t)
+    (branch-same-length-4 t)
+    (branch-same-length-5 t)
+    (branch-same-length-6 t)
+    (branch-same-length-7 t)
+    (branch-returns-2 t))
+    (λ t. exec-lts.spec (exec-cs t)
+    (exec-at t)
+    exec.Post
+    (exec-mul-kind t)
+    (exec-add-kind t)
+    (exec-shared-slice-read-kind t)
+    (exec-cast-cost t)
+    (exec-mul-cost t)
+    (exec-element-copy-out-cost t)
+    (exec-stopped-requires t)
+    (exec-returns t)
+    (exec-sequence-requires t)
+    (exec-branch-requires t)
+    (exec-repeat-requires t)
+    (exec-post-requires t)
+    (exec-post-requires-2 t)
+    (exec-act-requires t)
+    (exec-same-length t)
+    (exec-same-length-2 t)
+    (exec-same-length-3 t)
+    (exec-same-length-4 t)
+    (exec-returns-2 t)
+    (exec-same-length-5 t)
+    (exec-same-length-6 t)
+    (exec-same-length-7 t)
+    (exec-same-length-8 t)
+    (exec-returns-3 t)
+    (exec-same-length-9 t)
+    (exec-same-length-10 t)
+    (exec-same-length-11 t)
+    (exec-same-length-12 t)
+    (exec-returns-4 t)
+    (exec-same-length-13 t)
+    (exec-same-length-14 t)
+    (exec-same-length-15 t)
+    (exec-same-length-16 t)
+    (exec-returns-5 t)
+    (exec-same-length-17 t)
+    (exec-same-length-18 t)
+    (exec-same-length-19 t)
+    (exec-same-length-20 t)
+    (exec-returns-6 t)
+    (exec-same-length-21 t)
+    (exec-same-length-22 t)
+    (exec-same-length-23 t)
+    (exec-same-length-24 t)
+    (exec-returns-7 t))
+    (λ t. fire-lts.spec (fire-cs t)
+    (fire-at t)
+    fire.Post
+    (fire-next-fitting-requires t)
+    (fire-enum-known-next t)
+    (fire-enum-told t)
+    (fire-finished-requires t)
+    (fire-returns t)
+    (fire-variables-requires t)
+    (fire-add-above t)
+    (fire-exec-requires t)
+    (fire-enum-told-2 t)
+    (fire-enum-told-3 t)
+    (fire-same-length t)
+    (fire-same-length-2 t)
+    (fire-same-length-3 t)
+    (fire-same-length-4 t)
+    (fire-returns-2 t)
+    (fire-fire-requires t)
+    (fire-same-length-5 t)
+    (fire-same-length-6 t)
+    (fire-same-length-7 t)
+    (fire-same-length-8 t)
+    (fire-returns-3 t))
+    (λ t. post-lts.spec (post-cs t)
+    (post-at t)
+    post.Post
+    (post-post-requires t)
+    (post-enum-known-posted t)
+    (post-stopped-requires t)
+    (post-enum-known-posted-2 t)
+    (post-fire-requires t)
+    (post-same-length t)
+    (post-same-length-2 t)
+    (post-same-length-3 t)
+    (post-returns t)
+    (post-same-length-4 t)
+    (post-same-length-5 t)
+    (post-same-length-6 t)
+    (post-same-length-7 t)
+    (post-returns-2 t))
+    (λ t. repeat-lts.spec (repeat-cs t)
+    (repeat-at t)
+    repeat.Post
+    repeat-Inv-loop
+    repeat-μ-loop
+    (repeat-loop-holds t)
+    (repeat-decide-requires t)
+    (repeat-enum-known-next t)
+    (repeat-enum-told t)
+    (repeat-ended-requires t)
+    (repeat-same-length t)
+    (repeat-same-length-2 t)
+    (repeat-same-length-3 t)
+    (repeat-same-length-4 t)
+    (repeat-returns t)
+    (repeat-exec-requires t)
+    (repeat-pay-requires t)
+    (repeat-enum-told-2 t)
+    (repeat-enum-told-3 t)
+    (repeat-same-length-5 t)
+    (repeat-same-length-6 t)
+    (repeat-same-length-7 t)
+    (repeat-same-length-8 t)
+    (repeat-returns-2 t)
+    (repeat-loop-less t)
+    (repeat-loop-again t))
+    λ t. sequence-lts.spec (sequence-cs t)
+    (sequence-at t)
+    sequence.Post
+    (sequence-mul-at t)
+    (sequence-add-at t)
+    (sequence-add-u16-at t)
+    (sequence-u16-at-requires t)
+    (sequence-exec-requires t)
+    (sequence-enum-told t)
+    (sequence-enum-told-2 t)
+    (sequence-same-length t)
+    (sequence-same-length-2 t)
+    (sequence-same-length-3 t)
+    (sequence-same-length-4 t)
+    (sequence-returns t)
+    (sequence-add-u16-at-2 t)
+    (sequence-u16-at-requires-2 t)
+    (sequence-exec-requires-2 t)
+    (sequence-same-length-5 t)
+    (sequence-same-length-6 t)
+    (sequence-same-length-7 t)
+    (sequence-same-length-8 t)
+    (sequence-returns-2 t)
