@@ -1,6 +1,6 @@
 -- The kinds that `act` tells apart, and skip. Assumes nothing.
-use mathlib.Core.Path.{_≡_, refl, sym, ap, _∙_}
-use mathlib.Core.Bool.{Bool, true, false, false≢true}
+use mathlib.Core.Path.{_≡_, sym, ap, _∙_}
+use mathlib.Core.Bool.{true, false, false≢true}
 use mathlib.Core.List.{List}
 use mathlib.Core.Logic.{_⊎_, inl, inr}
 use Prim.Native.Nat.{ℕ, _≤_, _<_}
@@ -14,14 +14,13 @@ use Rattle.book.specs.Layout.{decode}
 use Rattle.book.specs.Refusals.{node-at}
 use Rattle.monitor.specs.Labelled.{Label, bottom, Lab}
 use Rattle.monitor.specs.Run.{M}
-use Rattle.monitor.specs.Syntax.{Cmd, skip, cmd-of}
-use Rattle.monitor.specs.Rules.{eval, command, exec}
-use Rattle.machine.specs.Ready.{script-of}
+use Rattle.monitor.specs.Syntax.{skip, cmd-of}
+use Rattle.monitor.specs.Rules.{command}
 use Rattle.machine.specs.Store.{Store, state}
-use Rattle.machine.specs.Promises.{ran, ended, Does, env, Commands}
+use Rattle.machine.specs.Promises.{ran, ended, Does, Commands}
 use Rattle.machine.specs.declared.Outcome.the-variants.{Done}
 use Rattle.machine.specs.declared.Ran.{Ran}
-use Rattle.machine.proofs.Nodes.{script-node}
+use Rattle.machine.proofs.Nodes.{command-is}
 use Rattle.machine.proofs.Runs.{quietly}
 
 inside : (k : ℕ) → 18 ≤ k → k ≤ 22 → between 18 22 k ≡ true
@@ -51,5 +50,4 @@ pub skips : (file : List ℕ) (ctx : Label) (user above n : ℕ) {vars : ℕ →
     → Does (Commands file ctx user above n) vars x left used r vars x
 unfolding command ended
 skips file ctx user above n {vars} {x} {left} {used} e q u = quietly Done bottom left q (omega arith) u λ fuel h.
-    ap (λ (y : Cmd). command (script-of file) true (eval (script-of file) fuel) (exec (script-of file) true fuel) (env ctx user above) n y
-    (state vars x left used)) (ap cmd-of (script-node file n) ∙ e)
+    ap (λ (m : M (Unit {0})). m (state vars x left used)) (command-is file ctx user above n e fuel)

@@ -24,11 +24,10 @@ use Rattle.machine.specs.declared.Ran.{Ran}
 use Rattle.commands.specs.declared.Next.the-variants.{Enter, End}
 use Rattle.commands.specs.declared.Decided.{Decided}
 use Rattle.commands.specs.Parts.{leads, end-of, Decides}
-use Rattle.machine.proofs.Nodes.{if-b, if-c}
-use Rattle.machine.proofs.Runs.{does-as, then-stops, then-goes, value-stops, value-goes}
-use Rattle.commands.proofs.Steps.{cells}
+use Rattle.machine.proofs.Nodes.{command-is, if-b, if-c}
+use Rattle.machine.proofs.Runs.{cells, does-as, then-stops, then-goes, value-stops, value-goes}
 use Rattle.commands.proofs.Ways.{Goes, if-ends, if-goes}
-use Rattle.commands.proofs.Meanings.{as-sequence, as-branch, command-is}
+use Rattle.commands.proofs.Meanings.{as-sequence, as-branch}
 
 -- the way that a test chooses
 choose-is : (z : ℤ) (m : ℕ → M (Unit {0})) (b c : ℕ) → choose z (m b) (m c) ≡ m (cond (is-zero z) c b)

@@ -1,25 +1,21 @@
 -- The trace of one run after another, and the entry of a node: its cost is paid, or it stops with 21. Assumes nothing.
 use mathlib.Core.Path.{_≡_, refl, sym, ap, _∙_, subst}
 use mathlib.Core.List.{List, [], _++_}
-use mathlib.Core.Bool.{Bool, true, false, cond}
 use Prim.Native.Nat.{ℕ, zero, suc, pred, _+_, _-_, _*_, _≤_, _<_}
 use native.Mathlib.Omega.{arith}
-use borrow.Author.Tests.{le-leb, lt-leb}
 use lib.IntN.{ℤ}
 use lib.ListN.{length}
-use Rattle.book.specs.Kinds.{between, cost-of}
-use Rattle.book.specs.Refusals.{node-at}
 use Rattle.monitor.specs.Labelled.{Label, bottom, Lab}
-use Rattle.monitor.specs.Run.{Cell, State, Rec, done, stop, M, next, guard, spend, pay}
+use Rattle.monitor.specs.Run.{State, Rec, stop, M, next, spend, pay}
 use Rattle.monitor.specs.Rules.{cost-at, exec}
-use Rattle.monitor.specs.Call.{cells-of}
 use Rattle.machine.specs.Ready.{script-of}
 use Rattle.machine.specs.Store.{Store, state, with-records}
 use Rattle.machine.specs.Promises.{ran, ended, Does, Enters, Commands}
 use Rattle.machine.specs.declared.Outcome.the-variants.{Stopped}
 use Rattle.machine.specs.declared.Ran.{Ran}
 use Rattle.machine.proofs.Traces.{with-length, with-both}
-use Rattle.machine.proofs.Runs.{after-none, quietly}
+use Rattle.monitor.proofs.Fuel.{cost-positive}
+use Rattle.machine.proofs.Runs.{pay-passes, pay-fails, after-none, quietly}
 
 -- ---- the trace
 
@@ -42,41 +38,21 @@ pub answers : {m : ℕ → M (Unit {0})} {vars vars' : ℕ → Lab ℤ} {x x' : 
     → q ≡ r → Does m vars x left used r vars' x' → Does m vars x left used q vars' x'
 answers {m} {vars} {vars'} {x} {x'} {left} {used} e d = subst (λ (a : Ran). Does m vars x left used a vars' x') (sym e) d
 
--- the cells of a store
-abbrev pub cells : Store → ℕ → Lab Cell
-cells x = cells-of (x .amounts) (x .presence) (x .labels)
-
 -- ---- entering a node
 
-cost-positive : (kind : ℕ) → 1 ≤ cost-of kind
-unfolding cost-of
-cost-positive kind = go (between 8 11 kind)
-  where
-    go : (x : Bool) → 1 ≤ cond x 4 1
-    go true = omega arith
-    go false = omega arith
-
-paid : (c i : ℕ) (s : State) → c ≤ s .left → pay c i s ≡ done [] tt (spend c s)
-unfolding pay guard
-paid c i s h = rw (le-leb c (s .left) h, guard)
-
-unpaid : (c i : ℕ) (s : State) → s .left < c → pay c i s ≡ stop [] (record { number = 21; node = i; obstacle = bottom }) s
-unfolding pay guard
-unpaid c i s h = rw (lt-leb c (s .left) h, guard)
-
-pay-passes : (c i : ℕ) (s : State) (k : M (Unit {0})) → c ≤ s .left → next (pay c i s) (λ a. k) ≡ k (spend c s)
+entry-passes : (c i : ℕ) (s : State) (k : M (Unit {0})) → c ≤ s .left → next (pay c i s) (λ a. k) ≡ k (spend c s)
 unfolding next
-pay-passes c i s k h = ap (λ o. next o (λ a. k)) (paid c i s h) ∙ after-none (k (spend c s))
+entry-passes c i s k h = ap (λ o. next o (λ a. k)) (pay-passes c i s h) ∙ after-none (k (spend c s))
 
-pay-fails : (c i : ℕ) (s : State) (k : M (Unit {0}))
+entry-fails : (c i : ℕ) (s : State) (k : M (Unit {0}))
     → s .left < c → next (pay c i s) (λ a. k) ≡ stop [] (record { number = 21; node = i; obstacle = bottom }) s
 unfolding next
-pay-fails c i s k h = ap (λ o. next o (λ a. k)) (unpaid c i s h)
+entry-fails c i s k h = ap (λ o. next o (λ a. k)) (pay-fails c i s h)
 
 module _ (file : List ℕ) (ctx : Label) (user above n : ℕ) {cost : ℕ} (e : cost ≡ cost-at (script-of file) n) where
   -- what is left of the budget falls at each entry
   pub entry-costs : 1 ≤ cost
-  entry-costs = omega (arith, cost-positive (node-at (script-of file) n .kind))
+  entry-costs = omega (arith, cost-positive (script-of file) n)
 
   -- a node is entered: its cost is paid, and one fuel is spent
   pub entered : (vars : ℕ → Lab ℤ) (x : Store) (left used fuel : ℕ) → cost ≤ left → left ≤ fuel
@@ -84,7 +60,7 @@ module _ (file : List ℕ) (ctx : Label) (user above n : ℕ) {cost : ℕ} (e : 
   unfolding exec
   entered vars x left used zero h l = absurd (omega (arith, entry-costs))
   entered vars x left used (suc fuel) h l =
-      pay-passes (cost-at (script-of file) n) n (state vars x left used) (Commands file ctx user above n fuel) (omega arith)
+      entry-passes (cost-at (script-of file) n) n (state vars x left used) (Commands file ctx user above n fuel) (omega arith)
       ∙ ap (λ (c : ℕ). Commands file ctx user above n fuel (state vars x (left - c) used)) (sym e)
 
   -- so one fuel less is enough
@@ -114,4 +90,4 @@ module _ (file : List ℕ) (ctx : Label) (user above n : ℕ) {cost : ℕ} (e : 
       where
         refused : (fuel : ℕ) → Enters file ctx user above n fuel (state vars x left used) ≡ ended (Stopped 21 n) bottom [] (state vars x left used)
         refused zero = refl
-        refused (suc fuel) = pay-fails (cost-at (script-of file) n) n (state vars x left used) (Commands file ctx user above n fuel) (omega arith)
+        refused (suc fuel) = entry-fails (cost-at (script-of file) n) n (state vars x left used) (Commands file ctx user above n fuel) (omega arith)

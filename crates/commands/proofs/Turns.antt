@@ -1,7 +1,7 @@
 -- The turns of a while. Assumes nothing.
 use mathlib.Core.Path.{_≡_, refl, sym, ap, _∙_, subst}
 use mathlib.Core.List.{List, [], _++_}
-use mathlib.Core.Bool.{Bool, true, false, cond, false≢true}
+use mathlib.Core.Bool.{Bool, true, false, cond}
 use Prim.Native.Nat.{ℕ, pred, _+_, _-_, _*_, _≤_, _<_}
 use native.Mathlib.Omega.{arith}
 use lib.Dec.{ltb}
@@ -27,11 +27,12 @@ use Rattle.commands.specs.declared.Next.the-variants.{Enter, End}
 use Rattle.commands.specs.declared.Decided.{Decided}
 use Rattle.commands.specs.Parts.{leads, end-of, Decides, paid}
 use Rattle.machine.proofs.Traces.{with-none}
-use Rattle.machine.proofs.Runs.{after-none, after-ended, next-done, next-known, does-as, quietly, then-stops, then-goes, value-stops, value-goes}
+use Rattle.machine.proofs.Nodes.{command-is}
+use Rattle.machine.proofs.Runs.{cells, done-not-stopped, after-none, after-ended, next-done, next-known, does-as, quietly, then-stops, then-goes, value-stops, value-goes}
 use Rattle.machine.proofs.WriteParts.{after-after}
-use Rattle.commands.proofs.Steps.{joined, same-length, cells, same-trace, entered, spent, enters-not, entry-costs}
+use Rattle.commands.proofs.Steps.{joined, same-length, same-trace, entered, spent, enters-not, entry-costs}
 use Rattle.commands.proofs.Ways.{Turns, while-ends, while-goes}
-use Rattle.commands.proofs.Meanings.{as-while, command-is}
+use Rattle.commands.proofs.Meanings.{as-while}
 
 -- A while that has turned: what it does from its first test on is the records so far, and then what it does from here on. The context
 -- has the labels of all tests so far; how much fuel is left depends on how much there was.
@@ -55,14 +56,6 @@ pub record Turning (file : List ℕ) (user above n : ℕ) (ctx : Label) (vars : 
   pub cells : Lengths (x' .amounts) (x' .presence) (x' .labels)
 
 -- ---- the cost of the next test
-
-is-done : Outcome → Bool
-is-done Done = true
-is-done (Stopped number node) = false
-
-done-not-stopped : {A : Type 0} (number node : ℕ) → Done ≡ Stopped number node → A
-unfolding is-done
-done-not-stopped number node e = absurd (false≢true (sym (ap is-done e)))
 
 -- the body was done, and the next test is paid
 pub record Again (q : Ran) (outcome : Outcome) (left used cost : ℕ) : Type 0 where

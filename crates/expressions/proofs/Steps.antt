@@ -6,19 +6,18 @@ use Prim.Native.Nat.{ℕ, zero, suc, _-_, _≤_, _<_}
 use native.Mathlib.Nat.{le-refl, le-trans}
 use native.Mathlib.Omega.{arith}
 use lib.IntN.{ℤ}
-use borrow.Author.Tests.{le-leb, lt-leb}
 use Rattle.book.specs.Records.{Book}
 use Rattle.book.specs.Kinds.{cost-of}
 use Rattle.book.specs.Refusals.{node-at}
 use Rattle.monitor.specs.Labelled.{Label, bottom, Lab}
-use Rattle.monitor.specs.Run.{Cell, Rights, State, Out, done, stop, M, after, next, _>>=_, guard, need, spend, pay}
+use Rattle.monitor.specs.Run.{Cell, Rights, State, Out, done, stop, M, after, next, _>>=_, guard, need}
 use Rattle.monitor.specs.Syntax.{exp-of}
 use Rattle.monitor.specs.Rules.{fits-32, ranged, expr, eval}
 use Rattle.machine.specs.Promises.{Gives, given}
 use Rattle.machine.specs.declared.Value.{Value}
 use Rattle.machine.specs.declared.Value.the-variants.{Known, Stopped}
 use Rattle.machine.specs.declared.Valued.{Valued}
-use Rattle.machine.proofs.Runs.{after-none, next-known}
+use Rattle.machine.proofs.Runs.{pay-passes, pay-fails, after-none, next-known}
 use Rattle.expressions.specs.Values.{held-to-32}
 
 abbrev pub valued : Value → ℕ → Label → Valued
@@ -32,14 +31,6 @@ standing cells vars left rights room = record { cells = cells; vars = vars; righ
 next-stopped : (v : Value) (number node : ℕ) (l : Label) (s : State) (k : Lab ℤ → M (Lab ℤ)) → v ≡ Stopped number node → next (given v l s) k ≡ given v l s
 unfolding next given
 next-stopped v number node l s k e = rw e
-
-pay-passes : (cost n : ℕ) (s : State) → cost ≤ s .left → pay cost n s ≡ done [] tt (spend cost s)
-unfolding pay guard
-pay-passes cost n s h = rw (le-leb cost (s .left) h, guard)
-
-pay-fails : (cost n : ℕ) (s : State) → s .left < cost → pay cost n s ≡ stop [] (record { number = 21; node = n; obstacle = bottom }) s
-unfolding pay guard
-pay-fails cost n s h = rw (lt-leb cost (s .left) h, guard)
 
 ranged-is : (n : ℕ) (x : Lab ℤ) (s : State) → ranged n x s ≡ given (held-to-32 (x .val) n) (x .lab) s
 unfolding ranged need guard next after given held-to-32

@@ -21,13 +21,26 @@ use Rattle.book.proofs.Chains.{both}
 use Rattle.book.proofs.Decoded.{count-regions, node-read}
 use Rattle.book.proofs.Accepted.{placed, nodes-inside, accepted}
 use Rattle.book.proofs.Tabulate.{tabulate-at}
+use Rattle.monitor.specs.Labelled.{Label}
+use Rattle.monitor.specs.Syntax.{Cmd, cmd-of}
+use Rattle.monitor.specs.Rules.{eval, exec}
+use Rattle.monitor.specs.Rules as rules
 use Rattle.monitor.specs.Call.{script}
 use Rattle.machine.specs.Ready.{script-of, Node}
+use Rattle.machine.specs.Promises.{env, Commands}
 
 -- the rules' node is the file's
 pub script-node : (file : List ℕ) (n : ℕ) → node-at (script-of file) n ≡ node-at (decode file) n
 unfolding script
 script-node file n = refl
+
+-- what a node does, once it is known which command it is
+pub command-is : (file : List ℕ) (ctx : Label) (user above n : ℕ) {y : Cmd} → cmd-of (node-at (decode file) n) ≡ y → (fuel : ℕ)
+    → Commands file ctx user above n fuel
+    ≡ rules.command (script-of file) true (eval (script-of file) fuel) (exec (script-of file) true fuel) (env ctx user above) n y
+command-is file ctx user above n e fuel =
+    ap (λ (c : Cmd). rules.command (script-of file) true (eval (script-of file) fuel) (exec (script-of file) true fuel) (env ctx user above) n c)
+    (ap cmd-of (script-node file n) ∙ e)
 
 -- the node's record stands at this byte of the file
 pub record Read (file : List ℕ) (at : ℕ) (x : NodeRecord) : Type 0 where

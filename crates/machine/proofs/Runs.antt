@@ -1,13 +1,14 @@
 -- `Does`, from one step to the next: tests, an expression whose value is needed, and commands that follow one another. Assumes nothing.
 use mathlib.Core.Path.{_≡_, refl, sym, ap, _∙_, subst}
 use mathlib.Core.List.{List, [], _++_}
-use mathlib.Core.Bool.{true, false}
-use Prim.Native.Nat.{ℕ, _+_, _*_, _≤_}
+use mathlib.Core.Bool.{Bool, true, false, false≢true}
+use Prim.Native.Nat.{ℕ, _+_, _*_, _≤_, _<_}
 use native.Mathlib.Omega.{arith}
 use lib.IntN.{ℤ, pos}
 use lib.ListN.{length, length-append}
+use borrow.Author.Tests.{le-leb, lt-leb}
 use Rattle.monitor.specs.Labelled.{Label, bottom, Lab, lit}
-use Rattle.monitor.specs.Run.{State, Rec, Out, done, stop, M, after, next, _>>=_, _>>_, ret, look, Test, guard, need, sixteen, restore, own}
+use Rattle.monitor.specs.Run.{Cell, State, Rec, Out, done, stop, M, after, next, _>>=_, _>>_, ret, look, Test, guard, need, spend, pay, sixteen, restore, own}
 use Rattle.monitor.specs.Call.{cells-of}
 use Rattle.machine.specs.Store.{Store, state, with-records}
 use Rattle.machine.specs.Promises.{given, Gives, ran, stop-of, ended, Does, DoesAside}
@@ -18,6 +19,29 @@ use Rattle.machine.specs.declared.Outcome.{Outcome}
 use Rattle.machine.specs.declared.Outcome.the-variants.{Done, Stopped}
 use Rattle.machine.specs.declared.Ran.{Ran}
 use Rattle.machine.proofs.Traces.{with-none, with-length, with-both}
+
+-- the cells of a store
+abbrev pub cells : Store → ℕ → Lab Cell
+cells x = cells-of (x .amounts) (x .presence) (x .labels)
+
+is-done : Outcome → Bool
+is-done Done = true
+is-done (Stopped number node) = false
+
+-- what is done has not stopped
+pub done-not-stopped : {A : Type 0} (number node : ℕ) → Done ≡ Stopped number node → A
+unfolding is-done
+done-not-stopped number node e = absurd (false≢true (sym (ap is-done e)))
+
+-- ---- 21: a cost is paid, or there is not enough left
+
+pub pay-passes : (cost n : ℕ) (s : State) → cost ≤ s .left → pay cost n s ≡ done [] tt (spend cost s)
+unfolding pay guard
+pay-passes cost n s h = rw (le-leb cost (s .left) h, guard)
+
+pub pay-fails : (cost n : ℕ) (s : State) → s .left < cost → pay cost n s ≡ stop [] (record { number = 21; node = n; obstacle = bottom }) s
+unfolding pay guard
+pay-fails cost n s h = rw (lt-leb cost (s .left) h, guard)
 
 -- ---- one run after another
 

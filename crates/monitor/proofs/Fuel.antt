@@ -76,7 +76,7 @@ kept labels n = record {
 
 -- ---- entering a node
 
-cost-positive : (b : Book) (i : ℕ) → 1 ≤ cost-at b i
+pub cost-positive : (b : Book) (i : ℕ) → 1 ≤ cost-at b i
 unfolding cost-of
 cost-positive b i = go (between 8 11 (node-at b i .kind))
   where

@@ -1,7 +1,7 @@
 -- The ways through put and clear: the evaluations, the write, and the triggers. Assumes nothing.
 use mathlib.Core.Path.{_≡_, refl, sym, ap, _∙_}
 use mathlib.Core.List.{List, []}
-use mathlib.Core.Bool.{Bool, true, false, false≢true}
+use mathlib.Core.Bool.{true}
 use Prim.Native.Nat.{ℕ, zero, suc, _+_, _≤_, _<_}
 use native.Mathlib.Omega.{arith}
 use lib.IntN.{ℤ, pos}
@@ -12,10 +12,10 @@ use Rattle.book.specs.Layout.{count, decode}
 use Rattle.book.specs.Kinds.{expression}
 use Rattle.book.specs.Refusals.{node-at, verdict}
 use Rattle.book.specs.declared.Verdict.the-variants.{Accepted}
-use Rattle.monitor.specs.Syntax.{Cmd, put, clear, cmd-of}
+use Rattle.monitor.specs.Syntax.{put, clear, cmd-of}
 use Rattle.monitor.specs.Labelled.{Label, Lab, lit, lift, lift2}
 use Rattle.monitor.specs.Run.{Cell, M, next, _>>=_, _>>_}
-use Rattle.monitor.specs.Rules.{Key, Env, key, key-place, within-label, fire, write-cell, eval, command, exec}
+use Rattle.monitor.specs.Rules.{Key, Env, key, key-place, within-label, fire, write-cell, command, exec}
 use Rattle.monitor.specs.Call.{cells-of, rows}
 use Rattle.machine.specs.Ready.{script-of}
 use Rattle.machine.specs.Store.{Store, store, room-in, cell}
@@ -24,21 +24,16 @@ use Rattle.machine.specs.Writes.{key-of, posting, posted-end, Posts, Fires}
 use Rattle.machine.specs.declared.Value.{Value}
 use Rattle.machine.specs.declared.Value.the-variants as value
 use Rattle.machine.specs.declared.Valued.{Valued}
-use Rattle.machine.specs.declared.Outcome.{Outcome}
 use Rattle.machine.specs.declared.Outcome.the-variants.{Done, Stopped}
 use Rattle.machine.specs.declared.Ran.{Ran}
 use Rattle.machine.specs.declared.Posted.{Posted}
 use Rattle.machine.specs.declared.Posted.the-variants as posted
 use Rattle.puts.specs.declared.Posting.{Posting}
 use Rattle.puts.specs.Writing.{NewAmount, stop-at, unposted, Writes}
-use Rattle.machine.proofs.Nodes.{script-node, Child, put-p, put-a, put-b, clear-p, clear-a, clear-b}
+use Rattle.machine.proofs.Nodes.{script-node, command-is, Child, put-p, put-a, put-b, clear-p, clear-a, clear-b}
 use Rattle.machine.proofs.Traces.{with-none}
-use Rattle.machine.proofs.Runs.{after-none, does-as, then-stops, then-goes, value-stops, value-goes}
+use Rattle.machine.proofs.Runs.{cells, done-not-stopped, after-none, does-as, then-stops, then-goes, value-stops, value-goes}
 use Rattle.machine.proofs.WriteParts.{write-parts, fires-alike}
-
--- the cells of a store
-abbrev cells : Store → ℕ → Lab Cell
-cells x = cells-of (x .amounts) (x .presence) (x .labels)
 
 -- a put writes event 1, a clear event 2
 data Event : ℕ → Type 0 where
@@ -93,13 +88,6 @@ as-put x e = rw e
 as-clear : (x : NodeRecord) → x .kind ≡ 22 → cmd-of x ≡ clear (x .p) (x .a) (x .b)
 unfolding cmd-of
 as-clear x e = rw e
-
-command-is : (file : List ℕ) (ctx : Label) (user above n : ℕ) {y : Cmd} → cmd-of (node-at (decode file) n) ≡ y → (fuel : ℕ)
-    → Commands file ctx user above n fuel
-    ≡ command (script-of file) true (eval (script-of file) fuel) (exec (script-of file) true fuel) (env ctx user above) n y
-command-is file ctx user above n e fuel =
-    ap (λ (c : Cmd). command (script-of file) true (eval (script-of file) fuel) (exec (script-of file) true fuel) (env ctx user above) n c)
-    (ap cmd-of (script-node file n) ∙ e)
 
 post-event : (file : List ℕ) (ctx : Label) (user above n : ℕ) {event : ℕ} → Event event → node-at (decode file) n .kind ≡ 20 + event → (fuel : ℕ)
     → Commands file ctx user above n fuel
@@ -237,10 +225,6 @@ unfolding posted-end stop-at stop-of
 ends-alike (value.Known z) = refl
 ends-alike (value.Stopped number node) = refl
 
-is-done : Outcome → Bool
-is-done Done = true
-is-done (Stopped number node) = false
-
 module _ (file : List ℕ) (ctx : Label) (user n event : ℕ) (vars : ℕ → Lab ℤ) (amounts₀ : List ℤ) (presence₀ labels₀ : List ℕ)
     (write : List (List ℕ)) {left : ℕ} where
   -- the key or the amount has no value
@@ -249,12 +233,12 @@ module _ (file : List ℕ) (ctx : Label) (user n event : ℕ) (vars : ℕ → La
       → Does (Commands file ctx user above n) vars (store amounts₀ presence₀ labels₀ read write trace) left used q vars
       (store amounts₀ presence₀ labels₀ read write trace))
       → Writes file ctx user n event vars amounts₀ presence₀ labels₀ write left r amounts₀ presence₀ labels₀
-  unfolding unposted posted-end stop-of is-done
+  unfolding unposted posted-end stop-of
   value-lacks g {r} {number} {i} e q w d = record {
     stops = λ number' i' e' above read trace used u.
         d above read trace used _ (λ j. ran ((sym (end _ e')) j) (ap (λ (x : Posting). x .left) q j) used) u;
-    goes = λ place e' above read trace used u f. absurd (false≢true (sym (ap is-done (ap stop-of e)) ∙ ap is-done (end _ e')));
-    inside = λ place e'. absurd (false≢true (sym (ap is-done (ap stop-of e)) ∙ ap is-done (end _ e')));
+    goes = λ place e' above read trace used u f. done-not-stopped number i (sym (end _ e') ∙ ap stop-of e);
+    inside = λ place e'. done-not-stopped number i (sym (end _ e') ∙ ap stop-of e);
     within = rw (ap (λ (x : Posting). x .left) q) w;
   }
     where

@@ -1,5 +1,4 @@
 -- `puts::unwritten` meets its contract.
-use mathlib.Core.Path.{refl}
 use Rattle.puts.specs.Writing.{unposted, stop-at}
 use Rattle.puts.proofs.unwritten.Statement.{statement}
 use Rattle.puts.proofs.unwritten.Tie as tie
