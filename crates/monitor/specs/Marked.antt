@@ -1,9 +1,10 @@
--- The paper's marked cases, as two tables. Book W is given by its bytes, the other books record by record.
+-- The paper's marked cases, as one table. Book W is given by its bytes, the other books record by record.
 use mathlib.Core.List.{List, [], _∷_, _++_}
 use Prim.Native.Nat.{ℕ}
 use lib.IntN.{pos}
 use Rattle.book.specs.Records.{CellRecord, RegionRecord, RightRecord, NodeRecord, ProgramRecord, Book}
-use Rattle.monitor.specs.Tables.{cell, owner-region, may-read, constant, variable, plus, sum, skip, assign, both, if, out, raise, program, Row, called, ran, Shows, run-list, shows, told}
+use Rattle.book.specs.Encode.{encode}
+use Rattle.monitor.specs.Tables.{cell, owner-region, may-read, constant, variable, plus, sum, skip, assign, both, if, out, raise, program, Row, called, Shows, run-list, shows, told}
 
 -- ---- Book W
 
@@ -50,12 +51,15 @@ constants = constant (pos 0) ∷ constant (pos 1) ∷ constant (pos 2) ∷ const
 abbrev pub w-nodes : List NodeRecord
 w-nodes = sum 0 1 1 0 3 ∷ sum 0 1 2 0 3 ∷ out 4 1 ∷ out 5 1 ∷ both 6 7 ∷ []
 
--- W with other rights, other nodes from 4 on and other programs
+-- W with other rights, other nodes from 4 on and other programs, and the bytes of that book
 abbrev pub w-with : List RightRecord → List NodeRecord → List ProgramRecord → Book
 w-with rights nodes programs =
     record { cells = w-cells; regions = w-regions; rights = rights; nodes = constants ++ nodes; programs = programs; triggers = [] }
 
--- ---- the tables: W from its bytes, the other books from their records
+abbrev pub w-file-with : List RightRecord → List NodeRecord → List ProgramRecord → List ℕ
+w-file-with rights nodes programs = encode (w-with rights nodes programs)
+
+-- ---- the table
 
 -- 2147483647 + 1, to user 1
 abbrev pub beyond : List NodeRecord
@@ -84,25 +88,21 @@ marked =
     ∷ record { of = w-file; budget = 14; trace = 4096; shows = shows 21 5 11 8 (told 250 ∷ []) }
     -- trace 7 bytes
     ∷ record { of = w-file; budget = 100000; trace = 7; shows = shows 30 6 10 0 [] }
-    ∷ []
-
-unfoldable pub marked-books : List (Row Book)
-marked-books =
     -- no right for user 1
-    run-list (w-with (may-read 2 1 ∷ []) w-nodes (program 0 8 ∷ [])) (shows 27 6 10 0 [])
+    ∷ run-list (w-file-with (may-read 2 1 ∷ []) w-nodes (program 0 8 ∷ [])) (shows 27 6 10 0 [])
     -- no programs
-    ∷ run-list (w-with w-rights w-nodes []) (shows 0 0 0 0 [])
+    ∷ run-list (w-file-with w-rights w-nodes []) (shows 0 0 0 0 [])
     -- 2147483647 + 1: out, sum and two constants are entered
-    ∷ run-list (w-with w-rights beyond (program 0 6 ∷ [])) (shows 22 5 4 0 [])
+    ∷ run-list (w-file-with w-rights beyond (program 0 6 ∷ [])) (shows 22 5 4 0 [])
     -- first 3, last 2: out and a query
-    ∷ run-list (w-with w-rights none-matched (program 0 6 ∷ [])) (shows 0 0 9 8 (told 0 ∷ []))
+    ∷ run-list (w-file-with w-rights none-matched (program 0 6 ∷ [])) (shows 0 0 9 8 (told 0 ∷ []))
     -- a fresh variable: if, a query, assignment and constant
-    ∷ run-list (w-with w-rights branching (program 0 7 ∷ [])) (shows 25 5 11 0 [])
+    ∷ run-list (w-file-with w-rights branching (program 0 7 ∷ [])) (shows 25 5 11 0 [])
     -- raised first: two nodes more, and the run passes
-    ∷ run-list (w-with w-rights branching (program 0 9 ∷ [])) (shows 0 0 13 0 [])
+    ∷ run-list (w-file-with w-rights branching (program 0 9 ∷ [])) (shows 0 0 13 0 [])
     -- and out to user 1: three nodes more
-    ∷ run-list (w-with w-rights branching (program 0 12 ∷ [])) (shows 27 11 16 0 [])
+    ∷ run-list (w-file-with w-rights branching (program 0 12 ∷ [])) (shows 27 11 16 0 [])
     ∷ []
 
 abbrev pub Marked : Type 0
-Marked = Shows called marked × Shows ran marked-books
+Marked = Shows called marked
