@@ -3,7 +3,7 @@ use mathlib.Core.Path.{_≡_, refl, sym, ap, _∙_}
 use mathlib.Core.List.{List, [], _∷_, _++_, append-assoc, append-nil}
 use mathlib.Core.Bool.{true, false}
 use Prim.Native.Nat.{ℕ, _+_, _-_, _*_, _/_, _≤_, _<_}
-use native.Mathlib.Nat.{add-zero, zero-add}
+use native.Mathlib.Nat.{add-zero}
 use native.Mathlib.Omega.{arith}
 use borrow.Author.Tests.{le-leb, lt-leb}
 use lib.Dec.{leb}
@@ -63,11 +63,6 @@ module _ (trace : List ℕ) (used : ℕ) where
         ∙ drop-drop (8 * length b) end trace in
         let ends : end + 8 * length b ≡ used + 8 * length (a ++ b) = omega (arith, length-append a b) in
         rw (take-at front (drop end trace) end long, rest, append-assoc (take used trace) (trace-bytes a) (trace-bytes b), ← bytes-append a b, ends)
-
--- records from the start of the trace
-pub with-first : (trace : List ℕ) (a : List Rec) → with-records trace 0 a ≡ trace-bytes a ++ drop (8 * length a) trace
-unfolding with-records
-with-first trace a = rw (zero-add (8 * length a))
 
 -- one record, written at the start of the part that is lent from byte `used` on
 pub recorded : (trace : List ℕ) (used : ℕ) (r : Rec) {part : List ℕ} → used + 8 ≤ length trace
