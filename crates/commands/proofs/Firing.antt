@@ -22,9 +22,9 @@ use Rattle.machine.specs.Promises.{ran, ended, Does, DoesAside, env, Enters}
 use Rattle.machine.specs.Writes.{key-of, Fires}
 use Rattle.machine.specs.declared.Outcome.the-variants.{Done, Stopped}
 use Rattle.machine.specs.declared.Ran.{Ran}
-use Rattle.commands.specs.declared.Fitting.{Fitting}
-use Rattle.commands.specs.declared.Fitting.the-variants as fitted
-use Rattle.commands.specs.Parts.{first-fitting}
+use Rattle.triggers.specs.declared.Fitting.{Fitting}
+use Rattle.triggers.specs.declared.Fitting.the-variants as fitted
+use Rattle.triggers.specs.Search.{first-fitting}
 use Rattle.machine.proofs.Scripts.{trigger-read-at}
 use Rattle.machine.proofs.Runs.{after-none, comes-to, does-as, quietly, then-stops, then-goes, aside, own-does}
 
@@ -41,38 +41,6 @@ fires-as file ctx t event place label eo el ea d = aside λ vars.
 script-triggers : (file : List ℕ) → length (script-of file .triggers) ≡ count file 5
 unfolding script
 script-triggers file = count-triggers file
-
--- ---- the first that fits
-
-module _ (file : List ℕ) (event place t : ℕ) where
-  -- there is none from the end on
-  pub first-none : count file 5 ≤ t → first-fitting file event place (count file 5 - t) t ≡ fitted.None
-  unfolding first-fitting
-  first-none h =
-      let none : count file 5 - t ≡ 0 = omega arith in
-      ap (λ (k : ℕ). first-fitting file event place k t) none
-
-  module _ (h : t < count file 5) where
-    first-chosen : first-fitting file event place (count file 5 - t) t
-        ≡ cond (fitting (script-of file) event place (trigger-at (script-of file) t))
-        (fitted.Trigger t (trigger-at (script-of file) t .user) (trigger-at (script-of file) t .body))
-        (first-fitting file event place (count file 5 - suc t) (suc t))
-    unfolding first-fitting
-    first-chosen =
-        let more : count file 5 - t ≡ suc (count file 5 - suc t) = omega (arith, h) in
-        ap (λ (k : ℕ). first-fitting file event place k t) more
-
-    pub first-passes : fitting (script-of file) event place (trigger-at (script-of file) t) ≡ false
-        → first-fitting file event place (count file 5 - t) t ≡ first-fitting file event place (count file 5 - (t + 1)) (t + 1)
-    first-passes e = first-chosen ∙ ap (λ (y : Bool). cond y (fitted.Trigger t (trigger-at (script-of file) t .user) (trigger-at (script-of file) t .body))
-        (first-fitting file event place (count file 5 - suc t) (suc t))) e
-        ∙ ap (λ (j : ℕ). first-fitting file event place (count file 5 - j) j) (sym (add-one t))
-
-    pub first-fits : {user body : ℕ} → fitting (script-of file) event place (trigger-at (script-of file) t) ≡ true
-        → user ≡ trigger-at (script-of file) t .user → body ≡ trigger-at (script-of file) t .body
-        → first-fitting file event place (count file 5 - t) t ≡ fitted.Trigger t user body
-    first-fits e eu eb = first-chosen ∙ ap (λ (y : Bool). cond y (fitted.Trigger t (trigger-at (script-of file) t .user) (trigger-at (script-of file) t .body))
-        (first-fitting file event place (count file 5 - suc t) (suc t))) e ∙ λ i. fitted.Trigger t (sym eu i) (sym eb i)
 
 -- a trigger's body is a command, run by one of the eight users
 pub trigger-runs : (file : List ℕ) (number : ℕ) {user body : ℕ} → verdict file ≡ Accepted → number < count file 5

@@ -2,7 +2,7 @@
 use mathlib.Core.Path.{_≡_}
 use mathlib.Core.List.{List}
 use mathlib.Core.Bool.{cond}
-use Prim.Native.Nat.{ℕ, zero, suc, _-_}
+use Prim.Native.Nat.{ℕ, _-_}
 use lib.Dec.{eqb, ltb}
 use lib.IntN.{ℤ}
 use Rattle.places.specs.Sets.{union}
@@ -11,8 +11,6 @@ use Rattle.book.specs.Layout.{decode}
 use Rattle.book.specs.Refusals.{node-at, is-zero}
 use Rattle.monitor.specs.Labelled.{Label, Lab}
 use Rattle.monitor.specs.Run.{Cell}
-use Rattle.monitor.specs.Rules.{trigger-at, fitting}
-use Rattle.machine.specs.Ready.{script-of}
 use Rattle.machine.specs.Promises.{Gives, Evaluates, ran}
 use Rattle.machine.specs.declared.Value.{Value}
 use Rattle.machine.specs.declared.Value.the-variants as value
@@ -23,8 +21,6 @@ use Rattle.machine.specs.declared.Ran.{Ran}
 use Rattle.commands.specs.declared.Next.{Next}
 use Rattle.commands.specs.declared.Next.the-variants.{Enter, End}
 use Rattle.commands.specs.declared.Decided.{Decided}
-use Rattle.commands.specs.declared.Fitting.{Fitting}
-use Rattle.commands.specs.declared.Fitting.the-variants as fitted
 
 -- where the value of its test leads an if (19) or a while (20)
 unfoldable pub leads : NodeRecord → Value → Next
@@ -45,11 +41,3 @@ pub record Decides (file : List ℕ) (ctx : Label) (n : ℕ) (cells : ℕ → La
 unfoldable pub paid : Outcome → ℕ → ℕ → ℕ → ℕ → Ran
 paid Done left used n cost = cond (ltb left cost) (ran (Stopped 21 n) left used) (ran Done (left - cost) used)
 paid (Stopped number node) left used n cost = ran (Stopped number node) left used
-
--- the first of k triggers from number t on that fits a write: its number, user and body
-unfoldable pub first-fitting : List ℕ → ℕ → ℕ → ℕ → ℕ → Fitting
-first-fitting file event place zero t = fitted.None
-first-fitting file event place (suc k) t =
-    cond (fitting (script-of file) event place (trigger-at (script-of file) t))
-    (fitted.Trigger t (trigger-at (script-of file) t .user) (trigger-at (script-of file) t .body))
-    (first-fitting file event place k (suc t))

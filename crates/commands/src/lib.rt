@@ -3,6 +3,7 @@ use machine::Outcome;
 use machine::Posted;
 use machine::Ran;
 use machine::Value;
+use triggers::Fitting;
 ghost use mathlib.Core.Path.{_≡_};
 ghost use mathlib.Core.Bool.{true};
 ghost use Prim.Native.Nat.{_+_, _-_, _<_};
@@ -16,7 +17,7 @@ ghost use Rattle.machine.specs.Ready.{Ready, Lengths, Node, Lent};
 ghost use Rattle.machine.specs.Store.{vars-of, store, cell};
 ghost use Rattle.machine.specs.Promises.{ran, Does, DoesAside, Enters, Commands};
 ghost use Rattle.machine.specs.Writes.{key-of, Fires};
-ghost use Rattle.commands.specs.Parts.{leads, end-of, Decides, paid, first-fitting};
+ghost use Rattle.commands.specs.Parts.{leads, end-of, Decides, paid};
 
 // Where a test leads, or the stop on the way: a command to enter, or the end of the command whose test it is.
 pub enum Next {
@@ -29,12 +30,6 @@ pub struct Decided {
     pub next: Next,
     pub left: u32,
     pub inner: [u64; 8],
-}
-
-// The first trigger that fits a write: its number, its user and its body.
-pub enum Fitting {
-    None,
-    Trigger(usize, usize, usize),
 }
 
 // Executes command `n`: pays its cost, or stops with 21, and does what its kind says.
@@ -615,7 +610,7 @@ fn fire(
         (store (now (amounts .entry)) (now (presence .entry)) (now (labels .entry)) (now (read .entry)) (now (write .entry)) (now (trace .entry))) left used r
         (store (now (amounts .exit)) (now (presence .exit)) (now (labels .exit)) (now (read .exit)) (now (write .exit)) (now (trace .exit))) ⌝ }
 {
-    let next = next_fitting(file, t, event, place);
+    let next = triggers::next_fitting(file, t, event, place);
     let Fitting::Trigger(number, user, body) = next else {
         return machine::finished(left, used);
     };
@@ -668,26 +663,5 @@ fn fire(
         labels,
         trace,
         ran.used,
-    )
-}
-
-// The first trigger from number `t` on that fits the write of the cell at `place`.
-fn next_fitting(file: &[u8], t: usize, event: u8, place: usize) -> Fitting
-    requires { ⌜ (verdict (now file) ≡ Accepted) × (place < 512) ⌝ }
-    ensures { λ r. ⌜ r ≡ first-fitting (now (file .entry)) event place (count (now (file .entry)) 5 - t) t ⌝ }
-{
-    let triggers = book::section_at(file, 5);
-    if triggers.count <= t {
-        return Fitting::None;
-    }
-    let fits = triggers::fits(file, t, event, place);
-    if !fits {
-        return next_fitting(file, t + 1, event, place);
-    }
-    let at = triggers.start + 8 * t;
-    Fitting::Trigger(
-        t,
-        numbers::byte_at(file, at + 2),
-        numbers::u16_at(file, at + 4),
     )
 }

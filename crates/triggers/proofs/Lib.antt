@@ -1,2 +1,3 @@
-pub mod Fitting
+pub mod Events
+pub mod Search
 pub mod Started

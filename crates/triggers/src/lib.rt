@@ -1,7 +1,7 @@
 // Triggers: whether one fits a write, and the variables with which it runs.
 use machine::Variables;
 ghost use mathlib.Core.Path.{_≡_};
-ghost use Prim.Native.Nat.{_<_};
+ghost use Prim.Native.Nat.{_-_, _<_};
 ghost use Rattle.book.specs.Layout.{count};
 ghost use Rattle.book.specs.Refusals.{verdict};
 ghost use Rattle.book.specs.declared.Verdict.the-variants.{Accepted};
@@ -9,6 +9,13 @@ ghost use Rattle.monitor.specs.Rules.{fitting, trigger-at, trigger-vars};
 ghost use Rattle.machine.specs.Ready.{script-of};
 ghost use Rattle.machine.specs.Store.{vars-of, cell};
 ghost use Rattle.machine.specs.Writes.{key-of};
+ghost use Rattle.triggers.specs.Search.{first-fitting};
+
+// The first trigger that fits a write: its number, its user and its body.
+pub enum Fitting {
+    None,
+    Trigger(usize, usize, usize),
+}
 
 // Whether trigger `t` fits the write of the cell at `place`: its event, and its region holds the place.
 pub fn fits(file: &[u8], t: usize, event: u8, place: usize) -> bool
@@ -21,6 +28,27 @@ pub fn fits(file: &[u8], t: usize, event: u8, place: usize) -> bool
     }
     let region = machine::region_places(file, numbers::byte_at(file, at));
     places::contains(region, place)
+}
+
+// The first trigger from number `t` on that fits the write of the cell at `place`.
+pub fn next_fitting(file: &[u8], t: usize, event: u8, place: usize) -> Fitting
+    requires { ⌜ (verdict (now file) ≡ Accepted) × (place < 512) ⌝ }
+    ensures { λ r. ⌜ r ≡ first-fitting (now (file .entry)) event place (count (now (file .entry)) 5 - t) t ⌝ }
+{
+    let triggers = book::section_at(file, 5);
+    if triggers.count <= t {
+        return Fitting::None;
+    }
+    let hit = fits(file, t, event, place);
+    if !hit {
+        return next_fitting(file, t + 1, event, place);
+    }
+    let at = triggers.start + 8 * t;
+    Fitting::Trigger(
+        t,
+        numbers::byte_at(file, at + 2),
+        numbers::u16_at(file, at + 4),
+    )
 }
 
 // A trigger's variables: owner and line with the context as label, the amount with its own label added, and 0 for the others.

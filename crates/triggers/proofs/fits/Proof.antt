@@ -7,7 +7,7 @@ use Rattle.book.proofs.Accepted.{placed}
 use Rattle.monitor.specs.Rules.{trigger-at}
 use Rattle.machine.specs.Ready.{script-of}
 use Rattle.machine.proofs.Scripts.{TriggerRead, trigger-read-at}
-use Rattle.triggers.proofs.Fitting.{other-event, same-event}
+use Rattle.triggers.proofs.Events.{other-event, same-event}
 use Rattle.triggers.proofs.fits.Statement.{statement}
 use Rattle.triggers.proofs.fits.Tie as tie
 

@@ -25,7 +25,7 @@ use Rattle.commands.proofs.+branch+exec+fire+post+repeat+sequence.Lts-s
 use Rattle.numbers.proofs.u16_at.Reads as u16-at-reads
 use Rattle.commands.proofs.decide.Reads as decide-reads
 use Rattle.commands.proofs.ended.Reads as ended-reads
-use Rattle.commands.proofs.next_fitting.Reads as next-fitting-reads
+use Rattle.triggers.proofs.next_fitting.Reads as next-fitting-reads
 use Rattle.commands.proofs.pay.Reads as pay-reads
 use Rattle.machine.proofs.finished.Reads as finished-reads
 use Rattle.machine.proofs.stopped.Reads as stopped-reads

@@ -1,6 +1,6 @@
--- `commands::next_fitting` meets its contract.
+-- `triggers::next_fitting` meets its contract.
 use mathlib.Core.Path.{_≡_, sym, ap, _∙_}
-use Prim.Native.Nat.{ℕ, _+_, _-_, _<_}
+use Prim.Native.Nat.{ℕ, _-_, _<_}
 use native.Mathlib.Omega.{arith}
 use borrow.Author.Tests.{not-true, not-false}
 use borrow.Fn.Kinds.{In}
@@ -9,16 +9,16 @@ use Rattle.book.specs.Layout.{count}
 use Rattle.book.specs.declared.Section.{Section}
 use Rattle.book.proofs.Accepted.{placed}
 use Rattle.machine.proofs.Scripts.{trigger-read-at}
-use Rattle.commands.proofs.Firing.{first-none, first-passes, first-fits}
-use Rattle.commands.proofs.next_fitting.Reads as next-fitting
-use Rattle.commands.proofs.next_fitting.Kinds as next-fitting-kinds
-use Rattle.commands.proofs.+next_fitting.Lts-next_fitting as next-fitting-lts
+use Rattle.triggers.proofs.Search.{first-none, first-passes, first-fits}
+use Rattle.triggers.proofs.next_fitting.Reads as next-fitting
+use Rattle.triggers.proofs.next_fitting.Kinds as next-fitting-kinds
+use Rattle.triggers.proofs.+next_fitting.Lts-next_fitting as next-fitting-lts
 use Rattle.numbers.proofs.byte_at.Reads as byte-at-reads
 use Rattle.book.proofs.section_at.Reads as section-at-reads
 use Rattle.numbers.proofs.u16_at.Reads as u16-at-reads
 use Rattle.triggers.proofs.fits.Reads as fits-reads
-use Rattle.commands.proofs.+next_fitting.{statement}
-use Rattle.commands.proofs.+next_fitting.Tie.{close}
+use Rattle.triggers.proofs.+next_fitting.{statement}
+use Rattle.triggers.proofs.+next_fitting.Tie.{close}
 
 abbrev μ-next-fitting : Measures 1 next-fitting-kinds.ps ℕ
 μ-next-fitting κs a = 8 - a .1 .0
