@@ -1,8 +1,11 @@
 // What the functions that run a book answer. The promises they make with these answers are in specs/.
 ghost use mathlib.Core.Path.{_≡_};
 ghost use Prim.Native.Nat.{_<_};
+ghost use lib.ListN.{getD};
+ghost use Rattle.places.specs.Sets.{has};
+ghost use Rattle.book.specs.Records.{region-of};
 ghost use Rattle.book.specs.Layout.{count};
-ghost use Rattle.book.specs.Refusals.{verdict};
+ghost use Rattle.book.specs.Refusals.{no-region, verdict};
 ghost use Rattle.book.specs.declared.Verdict.the-variants.{Accepted};
 ghost use Rattle.monitor.specs.Rules.{region-places};
 ghost use Rattle.machine.specs.Ready.{script-of};
@@ -46,13 +49,29 @@ pub struct Variables {
     pub tags: [u64; 128],
 }
 
+// Region `region` of an accepted book.
+fn region_of(file: &[u8], region: usize) -> regions::Region
+    requires { ⌜ (verdict (now file) ≡ Accepted) × (region < count (now file) 1) ⌝ }
+    ensures { λ r. ⌜ (r ≡ region-of (getD (script-of (now (file .entry)) .regions) region no-region)) × (r .table < 8) ⌝ }
+{
+    let regions = book::section_at(file, 1);
+    book::region_at(file, regions.start + 8 * region)
+}
+
 // The places of region `region` of an accepted book.
 pub fn region_places(file: &[u8], region: usize) -> [u64; 8]
     requires { ⌜ (verdict (now file) ≡ Accepted) × (region < count (now file) 1) ⌝ }
     ensures { λ r. ⌜ r ≡ region-places (script-of (now (file .entry))) region ⌝ }
 {
-    let regions = book::section_at(file, 1);
-    regions::region_set(book::region_at(file, regions.start + 8 * region))
+    regions::region_set(region_of(file, region))
+}
+
+// Whether `place` is one of them.
+pub fn region_holds(file: &[u8], region: usize, place: usize) -> bool
+    requires { ⌜ (verdict (now file) ≡ Accepted) × (region < count (now file) 1) × (place < 512) ⌝ }
+    ensures { λ r. ⌜ r ≡ has (region-places (script-of (now (file .entry))) region) place ⌝ }
+{
+    regions::holds(region_of(file, region), place)
 }
 
 // A command that is done.

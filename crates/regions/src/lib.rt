@@ -1,7 +1,7 @@
 // Regions, and their sets of places: a word for each table, with a row of eight bits, one for each line, for each owner.
 ghost use mathlib.Core.Path.{_≡_};
 ghost use Prim.Native.Nat.{_^_, _<_, _≤_};
-ghost use Rattle.regions.specs.Regions.{region-set, repeated};
+ghost use Rattle.regions.specs.Regions.{in-range, in-region, region-set, repeated};
 
 // The numbers from `first` to `last`, both included; none where first is above last.
 pub struct Range {
@@ -48,4 +48,26 @@ pub fn region_set(region: Region) -> [u64; 8]
     let mut set = [0u64; 8];
     set[table] = repeated(row, 8, owners);
     set
+}
+
+// Whether a range holds `number`.
+fn ranges(range: Range, number: usize) -> bool
+    ensures { λ r. ⌜ r ≡ in-range range number ⌝ }
+{
+    range.first <= number && number <= range.last
+}
+
+// Whether a region holds `place`, with no set made for it.
+pub fn holds(region: Region, place: usize) -> bool
+    ensures { λ r. ⌜ r ≡ in-region region place ⌝ }
+{
+    if place / 64 != region.table {
+        return false;
+    }
+    let owners = region.owners;
+    if !ranges(owners, place / 8 % 8) {
+        return false;
+    }
+    let lines = region.lines;
+    ranges(lines, place % 8)
 }

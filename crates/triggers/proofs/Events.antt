@@ -7,7 +7,6 @@ use borrow.Author.Tests.{eq-eqb, ne-eqb}
 use Rattle.places.specs.Sets.{has}
 use Rattle.book.specs.Bytes.{byte}
 use Rattle.book.specs.Records.{TriggerRecord}
-use Rattle.monitor.specs.Labelled.{Label}
 use Rattle.monitor.specs.Rules.{region-places, fitting}
 use Rattle.machine.specs.Ready.{script-of}
 use Rattle.machine.proofs.Scripts.{TriggerRead}
@@ -17,7 +16,7 @@ module _ {file : List ℕ} {at : ℕ} {x : TriggerRecord} (read : TriggerRead fi
   unfolding fitting
   other-event d = rw (← read .event, ne-eqb (byte file (at + 1)) event d)
 
-  pub same-event : {region : ℕ} {places : Label} {r : Bool} → byte file (at + 1) ≡ event → region ≡ byte file at
-      → places ≡ region-places (script-of file) region → r ≡ has places place → r ≡ fitting (script-of file) event place x
+  pub same-event : {region : ℕ} {r : Bool} → byte file (at + 1) ≡ event → region ≡ byte file at
+      → r ≡ has (region-places (script-of file) region) place → r ≡ fitting (script-of file) event place x
   unfolding fitting
-  same-event e region-is places-are h = rw (← read .event, eq-eqb (byte file (at + 1)) event e, ← read .region, ← region-is, ← places-are) h
+  same-event e region-is h = rw (← read .event, eq-eqb (byte file (at + 1)) event e, ← read .region, ← region-is) h

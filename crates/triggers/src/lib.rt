@@ -26,8 +26,7 @@ pub fn fits(file: &[u8], t: usize, event: u8, place: usize) -> bool
     if file[at + 1] != event {
         return false;
     }
-    let region = machine::region_places(file, numbers::byte_at(file, at));
-    places::contains(region, place)
+    machine::region_holds(file, numbers::byte_at(file, at), place)
 }
 
 // The first trigger from number `t` on that fits the write of the cell at `place`.

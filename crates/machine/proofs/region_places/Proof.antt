@@ -1,51 +1,21 @@
 -- `machine::region_places` meets its contract.
-use mathlib.Core.Path.{_∙_}
-use native.Mathlib.Omega.{arith}
-use lib.Dec.{lit<}
-use Rattle.book.proofs.Accepted.{placed}
-use Rattle.machine.proofs.Regions.{record-inside, table-inside, region-is}
+use mathlib.Core.Path.{ap, _∙_}
+use borrow.Author.Needs.{needs}
+use Rattle.regions.specs.Regions.{region-set}
+use Rattle.monitor.specs.Rules.{region-places}
 use Rattle.machine.proofs.region_places.Statement.{statement}
 use Rattle.machine.proofs.region_places.Tie as tie
 
-section-at-requires : tie.Need-section-at-requires
-section-at-requires c κs =
-    let s = c .before in
-    let z = placed (s .args .file .now) (s .pre .0) in
-    (lit< tt, z .long, z .back 1 (lit< tt))
-
-mul-region-at : tie.Need-mul-region-at
-mul-region-at c =
-    let s = c .before .before in
-    omega (arith, record-inside (s .args .file .now) (s .pre .0) (s .args .region) (s .pre .1) _ (c .section-at .ensures))
-
-add-region-at : tie.Need-add-region-at
-add-region-at c =
-    let s = c .before .before .before in
-    omega (arith, record-inside (s .args .file .now) (s .pre .0) (s .args .region) (s .pre .1) _ (c .before .section-at .ensures))
-
-region-at-requires : tie.Need-region-at-requires
-region-at-requires c κs =
-    let s = c .before .before .before in
-    record-inside (s .args .file .now) (s .pre .0) (s .args .region) (s .pre .1) _ (c .before .section-at .ensures)
+region-of-requires : tie.Need-region-of-requires
+region-of-requires c κs = search needs
 
 region-set-requires : tie.Need-region-set-requires
-region-set-requires c κs =
-    let s = c .before .before .before .before in
-    rw (c .region-at .ensures) (table-inside (s .args .file .now) (s .pre .0) (s .args .region) (s .pre .1) _ (c .before .before .section-at .ensures))
+region-set-requires c κs = c .region-of .ensures .1
 
 returns : tie.Need-returns
-returns c =
-    let s = c .before .before .before .before .before in
-    c .region-set .ensures
-    ∙ region-is (s .args .file .now) (s .pre .0) (s .args .region) (s .pre .1) _ (c .before .before .before .section-at .ensures) _ (c .before .region-at .ensures)
+unfolding region-places
+returns c = c .region-set .ensures ∙ ap (region-set 8) (c .before .region-of .ensures .0)
 
 pub region-places-spec : {M : Type 1} → statement M
 region-places-spec =
-    tie.close
-    (tie.spec
-    section-at-requires
-    mul-region-at
-    add-region-at
-    region-at-requires
-    region-set-requires
-    returns)
+    tie.close (tie.spec region-of-requires region-set-requires returns)

@@ -1,7 +1,6 @@
 -- `triggers::fits` meets its contract.
 use Prim.Native.Nat.{_+_, _*_}
 use native.Mathlib.Omega.{arith}
-use borrow.Author.Needs.{needs}
 use lib.Dec.{lit<}
 use Rattle.book.proofs.Accepted.{placed}
 use Rattle.monitor.specs.Rules.{trigger-at}
@@ -45,20 +44,18 @@ returns c =
 byte-at-requires : tie.Need-byte-at-requires
 byte-at-requires c κs = omega (arith, read (c .before .before .before) .end)
 
-region-places-requires : tie.Need-region-places-requires
-region-places-requires c κs =
+region-holds-requires : tie.Need-region-holds-requires
+region-holds-requires c κs =
+    let s = c .before .before .before .before .before .before in
     let x = read (c .before .before .before .before) in
-    (c .before .before .before .before .before .before .pre .0, rw (c .byte-at .ensures .0, x .region) (x .region-exists))
-
-contains-requires : tie.Need-contains-requires
-contains-requires c κs = search needs
+    (s .pre .0, rw (c .byte-at .ensures .0, x .region) (x .region-exists), s .pre .2)
 
 returns-2 : tie.Need-returns-2
 returns-2 c =
-    let compared = c .before .before .before in
+    let compared = c .before .before in
     let s = compared .before .before .before .before .before in
-    same-event (read (compared .before .before .before)) (s .args .event) (s .args .place) (compared .if1 .left) (c .before .before .byte-at .ensures .0)
-    (c .before .region-places .ensures) (c .contains .ensures)
+    same-event (read (compared .before .before .before)) (s .args .event) (s .args .place) (compared .if1 .left) (c .before .byte-at .ensures .0)
+    (c .region-holds .ensures)
 
 pub fits-spec : {M : Type 1} → statement M
 fits-spec =
@@ -71,6 +68,5 @@ fits-spec =
     shared-slice-read-if1
     returns
     byte-at-requires
-    region-places-requires
-    contains-requires
+    region-holds-requires
     returns-2)
