@@ -1,0 +1,73 @@
+//! The five workloads. Each is one call on a book that is built here.
+
+mod arithmetic;
+mod full;
+mod postings;
+mod queries;
+
+use crate::sides::{Answer, Call};
+use reference::book::Book;
+use reference::builder::Builder;
+
+const BUDGET: u32 = 1_000_000;
+
+pub struct Workload {
+    pub name: &'static str,
+    pub file: Vec<u8>,
+    pub call: Call,
+    /// What the call must answer.
+    pub answer: Answer,
+}
+
+pub fn all() -> [Workload; 5] {
+    [
+        run("arithmetic", arithmetic::book(), arithmetic::COST),
+        run("queries", queries::book(), queries::COST),
+        run("postings", postings::book(), postings::COST),
+        Workload {
+            name: "reading",
+            file: full::book().encode(),
+            call: Call::Load,
+            answer: [0, 0, 0, 0],
+        },
+        Workload {
+            name: "writing",
+            file: full::book().encode(),
+            call: Call::Write,
+            answer: [0, 0, full::LENGTH, 0],
+        },
+    ]
+}
+
+/// A run that tells something once and finishes.
+fn run(name: &'static str, book: Book, cost: u32) -> Workload {
+    Workload {
+        name,
+        file: book.encode(),
+        call: Call::Run { budget: BUDGET },
+        answer: [0, 0, cost, 8],
+    }
+}
+
+/// One command after another, at least one.
+fn block(builder: &mut Builder, commands: &[u16]) -> u16 {
+    let (&last, others) = commands.split_last().expect("a block has a command");
+    let others = others.iter().rev();
+    others.fold(last, |rest, &command| builder.then(command, rest))
+}
+
+/// Makes `variable` one more.
+fn count_up(builder: &mut Builder, variable: u8) -> u16 {
+    let one = builder.constant(1);
+    let old = builder.variable(variable);
+    let next = builder.operator(reference::book::kind::ADD, old, one);
+    builder.assign(variable, next)
+}
+
+/// Runs `body` until variable 0, which it counts up, has reached `turns`.
+fn repeat(builder: &mut Builder, turns: i32, body: u16) -> u16 {
+    let turns = builder.constant(turns);
+    let counter = builder.variable(0);
+    let test = builder.operator(reference::book::kind::LESS, counter, turns);
+    builder.repeat(test, body)
+}
