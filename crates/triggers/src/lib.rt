@@ -2,7 +2,7 @@
 use machine::Variables;
 ghost use mathlib.Core.Path.{_≡_};
 ghost use Prim.Native.Nat.{_-_, _<_};
-ghost use Rattle.book.specs.Layout.{count};
+ghost use Rattle.book.specs.Layout.{count, section};
 ghost use Rattle.book.specs.Refusals.{verdict};
 ghost use Rattle.book.specs.declared.Verdict.the-variants.{Accepted};
 ghost use Rattle.monitor.specs.Rules.{fitting, trigger-at, trigger-vars};
@@ -18,11 +18,12 @@ pub enum Fitting {
 }
 
 // Whether trigger `t` fits the write of the cell at `place`: its event, and its region holds the place.
-pub fn fits(file: &[u8], t: usize, event: u8, place: usize) -> bool
-    requires { ⌜ (verdict (now file) ≡ Accepted) × (t < count (now file) 5) × (place < 512) ⌝ }
+fn fits(file: &[u8], triggers: book::Section, t: usize, event: u8, place: usize) -> bool
+    requires { ⌜ (verdict (now file) ≡ Accepted) × (triggers ≡ section (now file) 5) × (t < count (now file) 5) × (place < 512) ⌝ }
     ensures { λ r. ⌜ r ≡ fitting (script-of (now (file .entry))) event place (trigger-at (script-of (now (file .entry))) t) ⌝ }
 {
-    let at = book::section_at(file, 5).start + 8 * t;
+    let start = triggers.start;
+    let at = start + 8 * t;
     if file[at + 1] != event {
         return false;
     }
@@ -35,19 +36,19 @@ pub fn next_fitting(file: &[u8], t: usize, event: u8, place: usize) -> Fitting
     ensures { λ r. ⌜ r ≡ first-fitting (now (file .entry)) event place (count (now (file .entry)) 5 - t) t ⌝ }
 {
     let triggers = book::section_at(file, 5);
-    if triggers.count <= t {
-        return Fitting::None;
+    let mut number = t;
+    while number < triggers.count {
+        if fits(file, triggers, number, event, place) {
+            let at = triggers.start + 8 * number;
+            return Fitting::Trigger(
+                number,
+                numbers::byte_at(file, at + 2),
+                numbers::u16_at(file, at + 4),
+            );
+        }
+        number += 1;
     }
-    let hit = fits(file, t, event, place);
-    if !hit {
-        return next_fitting(file, t + 1, event, place);
-    }
-    let at = triggers.start + 8 * t;
-    Fitting::Trigger(
-        t,
-        numbers::byte_at(file, at + 2),
-        numbers::u16_at(file, at + 4),
-    )
+    Fitting::None
 }
 
 // A trigger's variables: owner and line with the context as label, the amount with its own label added, and 0 for the others.
