@@ -64,6 +64,8 @@ learns g R budget budget' m m' {o} {o'} f f' a =
     let second = call-seen g budget' m' o' (fine-records f') in
     record {
       begins = rw (first, second) (begin (a .begins));
+      first-whole = λ d. rw (first, second) (begins-bytes (a .first-whole (finished-is budget m o d)));
+      second-whole = λ d. rw (first, second) (begins-bytes (a .second-whole (finished-is budget' m' o' d)));
       traces = λ d d'. first ∙ ap (map record-bytes) (a .traces (finished-is budget m o d) (finished-is budget' m' o' d')) ∙ sym second;
       cells = λ d d'. record { same = cells (finished-is budget m o d) (finished-is budget' m' o' d') };
     }
