@@ -1,5 +1,6 @@
 -- Runs: from a state to its end or to a stop, each with the trace records written meanwhile.
--- `guard` is the only source of stops, `tell` the only writer of records, `pay` the only reader of the budget.
+-- `guard` is the only source of stops but for the end of fuel in Rules.antt, which is a 21 too; `tell` is the only writer of records,
+-- `pay` the only reader of the budget.
 use mathlib.Core.List.{List, [], _∷_, _++_}
 use mathlib.Core.Bool.{Bool, true, false, not, _||_, cond}
 use Prim.Native.Nat.{ℕ, _-_}
