@@ -137,11 +137,13 @@ module _ (file : List ℕ) (b : Bytes file) (v : verdict file ≡ Accepted) (amo
   unfolding with-cells
   restored = record {
     accepted = passes;
-    same-regions = ap (λ (x : Book). x .regions) decoded;
-    same-rights = ap (λ (x : Book). x .rights) decoded;
-    same-nodes = ap (λ (x : Book). x .nodes) decoded;
-    same-programs = ap (λ (x : Book). x .programs) decoded;
-    same-triggers = ap (λ (x : Book). x .triggers) decoded;
+    scripts = record {
+      regions = ap (λ (x : Book). x .regions) decoded;
+      rights = ap (λ (x : Book). x .rights) decoded;
+      nodes = ap (λ (x : Book). x .nodes) decoded;
+      programs = ap (λ (x : Book). x .programs) decoded;
+      triggers = ap (λ (x : Book). x .triggers) decoded;
+    };
     loads = λ amounts′ presence′ labels′ l.
         sym (load-accepted new amounts′ presence′ labels′ (lent l) (verdict new) refl _ _ _ passes amounts-back presence-back refl);
   }

@@ -9,6 +9,7 @@ use mir.Syntax.{w32}
 use mir.Val.{SFits}
 use Rattle.places.specs.Sets.{Words, has}
 use Rattle.book.specs.Bytes.{Bytes}
+use Rattle.book.specs.Records.{SameScripts}
 use Rattle.book.specs.Layout.{decode}
 use Rattle.book.specs.Refusals.{verdict}
 use Rattle.book.specs.Start.{tabulate, start-labels}
@@ -37,11 +38,7 @@ present-amounts amounts presence = tabulate (λ p. cond (has presence p) (getD a
 -- `new` is a book like `file` in all but its cells, which are those of lent memory
 pub record Rewritten (file : List ℕ) (amounts : List ℤ) (presence new : List ℕ) : Type 0 where
   pub accepted : verdict new ≡ Accepted
-  pub same-regions : decode new .regions ≡ decode file .regions
-  pub same-rights : decode new .rights ≡ decode file .rights
-  pub same-nodes : decode new .nodes ≡ decode file .nodes
-  pub same-programs : decode new .programs ≡ decode file .programs
-  pub same-triggers : decode new .triggers ≡ decode file .triggers
+  pub scripts : SameScripts (decode new) (decode file)
   pub loads : (amounts′ : List ℤ) (presence′ labels′ : List ℕ) → Lent amounts′ presence′ labels′
       → load-call new amounts′ presence′ labels′
       ≡ record { answer = Accepted; amounts = present-amounts amounts presence; presence = presence; labels = start-labels }
