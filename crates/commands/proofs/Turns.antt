@@ -12,10 +12,11 @@ use Rattle.places.specs.Sets.{union}
 use Rattle.book.specs.Records.{NodeRecord}
 use Rattle.book.specs.Layout.{decode}
 use Rattle.book.specs.Refusals.{node-at, is-zero}
+use Rattle.book.specs.Start.{Lengths}
 use Rattle.monitor.specs.Labelled.{Label, bottom, Lab}
 use Rattle.monitor.specs.Run.{State, Rec, Out, M, after, next, _>>=_, _>>_, ret}
 use Rattle.monitor.specs.Rules.{Env, within-label, choose, cost-at, command, exec}
-use Rattle.machine.specs.Ready.{script-of, Lengths}
+use Rattle.machine.specs.Ready.{script-of}
 use Rattle.machine.specs.Store.{Store, state, with-records}
 use Rattle.machine.specs.Promises.{Gives, Evaluates, ran, stop-of, ended, Does, env, Enters, Commands}
 use Rattle.machine.specs.declared.Value.the-variants as value

@@ -12,9 +12,9 @@ use Rattle.book.specs.Bytes.{Bytes}
 use Rattle.book.specs.Records.{SameScripts}
 use Rattle.book.specs.Layout.{decode}
 use Rattle.book.specs.Refusals.{verdict}
-use Rattle.book.specs.Start.{tabulate, start-labels}
+use Rattle.book.specs.Start.{Lengths, tabulate, start-labels}
 use Rattle.book.specs.declared.Verdict.the-variants.{Accepted}
-use Rattle.loader.specs.Load.{Loaded, load-call, Lent}
+use Rattle.loader.specs.Load.{Loaded, load-call}
 use Rattle.writer.specs.Write.{write-call}
 use Rattle.writer.specs.declared.Written.the-variants.{Wrote}
 
@@ -26,7 +26,7 @@ pub record Amounts (amounts : List ℤ) : Type 0 where
 unfoldable pub SameBytes : Type 0
 SameBytes =
     (file : List ℕ) → Bytes file → verdict file ≡ Accepted
-    → (amounts : List ℤ) (presence labels : List ℕ) → Lent amounts presence labels
+    → (amounts : List ℤ) (presence labels : List ℕ) → Lengths amounts presence labels
     → (out : List ℕ) → 60000 ≤ length out
     → let r : Loaded = load-call file amounts presence labels in
     write-call file (r .amounts) (r .presence) out ≡ record { answer = Wrote (length file); out = file ++ drop (length file) out }
@@ -39,7 +39,7 @@ present-amounts amounts presence = tabulate (λ p. cond (has presence p) (getD a
 pub record Rewritten (file : List ℕ) (amounts : List ℤ) (presence new : List ℕ) : Type 0 where
   pub accepted : verdict new ≡ Accepted
   pub scripts : SameScripts (decode new) (decode file)
-  pub loads : (amounts′ : List ℤ) (presence′ labels′ : List ℕ) → Lent amounts′ presence′ labels′
+  pub loads : (amounts′ : List ℤ) (presence′ labels′ : List ℕ) → Lengths amounts′ presence′ labels′
       → load-call new amounts′ presence′ labels′
       ≡ record { answer = Accepted; amounts = present-amounts amounts presence; presence = presence; labels = start-labels }
 
