@@ -1,4 +1,4 @@
--- The start state of a book: its cells, and the public, read and write sets.
+-- The memory lent for the cells of a book, and its start state: its cells, and the public, read and write sets.
 use mathlib.Core.Path.{_≡_}
 use mathlib.Core.List.{List, [], _∷_, _++_}
 use mathlib.Core.Bool.{Bool, true, false, _&&_, _||_, cond}

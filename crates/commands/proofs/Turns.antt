@@ -29,8 +29,7 @@ use Rattle.commands.specs.declared.Decided.{Decided}
 use Rattle.commands.specs.Parts.{leads, end-of, Decides, paid}
 use Rattle.machine.proofs.Traces.{with-none}
 use Rattle.machine.proofs.Nodes.{command-is}
-use Rattle.machine.proofs.Runs.{cells, done-not-stopped, after-none, after-ended, next-done, next-known, does-as, quietly, then-stops, then-goes, value-stops, value-goes}
-use Rattle.machine.proofs.WriteParts.{after-after}
+use Rattle.machine.proofs.Runs.{cells, done-not-stopped, after-none, after-after, after-ended, next-done, next-known, does-as, quietly, then-stops, then-goes, value-stops, value-goes}
 use Rattle.commands.proofs.Steps.{joined, same-length, same-trace, entered, spent, enters-not, entry-costs}
 use Rattle.commands.proofs.Ways.{Turns, while-ends, while-goes}
 use Rattle.commands.proofs.Meanings.{as-while}

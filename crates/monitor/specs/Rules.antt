@@ -171,6 +171,17 @@ key-place p k = place p (nat (k .owner)) (nat (k .line))
 unfoldable pub in-table : Key → Bool
 in-table k = (leZ (pos 0) (k .owner) && leZ (k .owner) (pos 7)) && (leZ (pos 0) (k .line) && leZ (k .line) (pos 7))
 
+-- put and clear up to their triggers: the tests for the cell of table p with key k, and its write; c is context plus key label
+unfoldable pub posting : Bool → ℕ → Label → ℕ → ℕ → Key → Lab Cell → M (Unit {0})
+posting labels i c user p k z = do
+  -- 23: key outside 0 to 7
+  need (plainly (in-table k)) 23 i
+  -- 24: a write right for the place
+  r ← look (λ s. s .rights)
+  need (plainly (has (r .write user) (key-place p k))) 24 i
+  -- 26, and the new label: context, key label and the amount's label
+  set-cell labels i c (key-place p k) (under c z)
+
 -- a trigger's variables: owner and line, with the context as label, the amount with its own label added, and 0 for the others
 unfoldable pub trigger-vars : Label → Key → Lab Cell → ℕ → Lab ℤ
 trigger-vars c k z =
@@ -221,13 +232,7 @@ module _ (book : Book) where
     -- put (event 1) and clear (event 2) of the cell of table p with key k, when key and new cell are known
     unfoldable pub write-cell : Env → ℕ → ℕ → ℕ → Lab Key → Lab Cell → M (Unit {0})
     write-cell e i event p k z = do
-      -- 23: key outside 0 to 7
-      need (plainly (in-table (k .val))) 23 i
-      -- 24: a write right for the place
-      r ← look (λ s. s .rights)
-      need (plainly (has (r .write (e .user)) (key-place p (k .val)))) 24 i
-      -- 26, and the new label: context, key label and the amount's label
-      set-cell labels i (union (e .ctx) (k .lab)) (key-place p (k .val)) (under (union (e .ctx) (k .lab)) z)
+      posting labels i (union (e .ctx) (k .lab)) (e .user) p (k .val) z
       -- then the triggers, in context plus key label, even if clear met an absent cell
       fire (within-label e k) event (key-place p (k .val)) (k .val) z
 
