@@ -7,8 +7,9 @@ ghost use lib.ListN.{length};
 ghost use Rattle.book.specs.Layout.{decode};
 ghost use Rattle.book.specs.Kinds.{command};
 ghost use Rattle.book.specs.Refusals.{node-at};
+ghost use Rattle.book.specs.Start.{Lengths};
 ghost use Rattle.monitor.specs.Run.{update};
-ghost use Rattle.machine.specs.Ready.{Ready, Lengths, Node};
+ghost use Rattle.machine.specs.Ready.{Ready, Node};
 ghost use Rattle.machine.specs.Store.{vars-of};
 ghost use Rattle.machine.specs.Promises.{Assigns, Raises};
 

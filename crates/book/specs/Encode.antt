@@ -55,7 +55,7 @@ abbrev pub keep : {A : Type 0} → Bool → A → List A → List A
 keep true x xs = x ∷ xs
 keep false x xs = xs
 
--- the records of the n present cells from place p on, places rising; an amount without presence is ignored
+-- of the n places from p on, the records of the cells that are present, places rising; an amount without presence is ignored
 unfoldable pub cells-from : List ℤ → List ℕ → ℕ → ℕ → List CellRecord
 cells-from amounts presence zero p = []
 cells-from amounts presence (suc n) p = keep (has presence p) (cell-record p (getD amounts p (pos 0))) (cells-from amounts presence n (suc p))

@@ -1,5 +1,6 @@
 -- The records of the six sections, as the paper's table lays them out, and the decoded book.
 -- A field that the paper calls 0 is kept, as `zero` or `zeros`, so that a record says all of its bytes.
+use mathlib.Core.Path.{_≡_}
 use mathlib.Core.List.{List, [], _∷_, _++_}
 use Prim.Native.Nat.{ℕ, zero, suc, _+_}
 use lib.IntN.{ℤ}
@@ -161,3 +162,11 @@ pub record Book : Type 0 where
   pub nodes : List NodeRecord
   pub programs : List ProgramRecord
   pub triggers : List TriggerRecord
+
+-- two books whose region, rights, node, program and trigger records are the same in the same order
+pub record SameScripts (b b' : Book) : Type 0 where
+  pub regions : b .regions ≡ b' .regions
+  pub rights : b .rights ≡ b' .rights
+  pub nodes : b .nodes ≡ b' .nodes
+  pub programs : b .programs ≡ b' .programs
+  pub triggers : b .triggers ≡ b' .triggers

@@ -59,13 +59,14 @@ pub record Laid (s : List ℕ) : Type 0 where
   pub length-ok : length-fits s ≡ true
   pub sections-ok : sections-fit s ≡ true
 
--- 5: table, owner and line are 0 to 7, and the place is above that of the record before
+-- 5: table, owner and line are 0 to 7, and the byte called 0 is 0
 unfoldable pub cell-fits : CellRecord → Bool
 cell-fits c = leb (c .table) 7 && (leb (c .owner) 7 && (leb (c .line) 7 && eqb (c .zero) 0))
 
 abbrev pub no-cell : CellRecord
 no-cell = record { table = 0; owner = 0; line = 0; zero = 0; amount = pos 0 }
 
+-- and the place is above that of the record before
 unfoldable pub rises : List CellRecord → ℕ → Bool
 rises cells zero = true
 rises cells (suc i) = ltb (place-of (getD cells i no-cell)) (place-of (getD cells (suc i) no-cell))
@@ -73,7 +74,7 @@ rises cells (suc i) = ltb (place-of (getD cells i no-cell)) (place-of (getD cell
 unfoldable pub bad-cell : List CellRecord → ℕ → Bool
 bad-cell cells i = not (cell-fits (getD cells i no-cell) && rises cells i)
 
--- 6: the table is 0 to 7, and first ≤ last ≤ 7
+-- 6: the table is 0 to 7, first ≤ last ≤ 7, and the three bytes called 0 are 0
 abbrev pub no-region : RegionRecord
 no-region = record { table = 0; owner-first = 0; owner-last = 0; line-first = 0; line-last = 0; zeros = 0 }
 
@@ -85,7 +86,7 @@ region-fits r =
 unfoldable pub bad-region : List RegionRecord → ℕ → Bool
 bad-region regions i = not (region-fits (getD regions i no-region))
 
--- 7: kind 0, 1 or 2, user 0 to 7 and 0 if public, a region that exists
+-- 7: kind 0, 1 or 2, user 0 to 7 and 0 if public, a region that exists, and the byte called 0 is 0
 abbrev pub no-right : RightRecord
 no-right = record { kind = 0; user = 0; region = 0; zero = 0 }
 
@@ -96,7 +97,7 @@ right-fits b r =
 unfoldable pub bad-right : Book → ℕ → Bool
 bad-right b i = not (right-fits b (getD (b .rights) i no-right))
 
--- 8: a kind that there is, and each field as its kind says
+-- 8: a kind that there is, each field as its kind says, and the two bytes called 0 are 0
 abbrev pub no-node : NodeRecord
 no-node = record { kind = 0; p = 0; a = 0; b = 0; c = 0; d = 0; k = pos 0; zeros = 0 }
 
@@ -131,7 +132,7 @@ node-fits b n =
 abbrev pub bad-node : Book → ℕ → Bool
 bad-node b n = not (node-fits b n)
 
--- 9: a user, and a root that is a command
+-- 9: a user, a root that is a command, and the byte called 0 is 0
 abbrev pub no-program : ProgramRecord
 no-program = record { user = 0; zero = 0; root = 0 }
 
@@ -144,7 +145,8 @@ program-fits b p = leb (p .user) 7 && (eqb (p .zero) 0 && is-command b (p .root)
 unfoldable pub bad-program : Book → ℕ → Bool
 bad-program b i = not (program-fits b (getD (b .programs) i no-program))
 
--- 10: a region that exists, event 1 or 2, a user, and a body that is a command and reaches no kind 20 or 23 to 25
+-- 10: a region that exists, event 1 or 2, a user, a body that is a command and reaches no kind 20 or 23 to 25, and the three bytes
+-- called 0 are 0
 abbrev pub no-trigger : TriggerRecord
 no-trigger = record { region = 0; event = 0; user = 0; zero = 0; body = 0; zeros = 0 }
 

@@ -1,16 +1,23 @@
--- The start state of a book: its cells, and the public, read and write sets.
+-- The memory lent for the cells of a book, and its start state: its cells, and the public, read and write sets.
+use mathlib.Core.Path.{_≡_}
 use mathlib.Core.List.{List, [], _∷_, _++_}
 use mathlib.Core.Bool.{Bool, true, false, _&&_, _||_, cond}
 use mathlib.Core.Option.{Option, none, some}
 use Prim.Native.Nat.{ℕ, zero, suc}
 use lib.Dec.{eqb}
 use lib.IntN.{ℤ, pos}
-use lib.ListN.{getD}
+use lib.ListN.{length, getD}
 use Rattle.places.specs.Sets.{set-of}
 use Rattle.regions.specs.Regions.{in-region}
 use Rattle.labels.specs.Labels.{own-labels}
 use Rattle.book.specs.Records.{CellRecord, RightRecord, Book, place-of, region-of}
 use Rattle.book.specs.Refusals.{no-region}
+
+-- lent memory for the cells: 512 amounts, 8 presence words, 4,096 label words
+pub record Lengths (amounts : List ℤ) (presence labels : List ℕ) : Type 0 where
+  pub amounts-are : length amounts ≡ 512
+  pub presence-is : length presence ≡ 8
+  pub labels-are : length labels ≡ 4096
 
 -- f 0, f 1 and so on, n of them
 unfoldable pub tabulate : {A : Type 0} → (ℕ → A) → ℕ → List A

@@ -16,7 +16,7 @@ use Rattle.book.specs.Refusals.{node-at, no-program, is-zero}
 use Rattle.monitor.specs.Labelled.{Label, Lab, lift2}
 use Rattle.monitor.specs.Run.{Cell, Rights, State, Rec, Halt, Out, done, stop, M, after, next, _>>=_, ret, look, each, when, Test, guard, need, pay, set-var, set-cell, tell, restore, own, with-vars}
 use Rattle.monitor.specs.Syntax.{Exp, const, var, add, minus, equal, less, query, Cmd, skip, assign, seq, branch, while, put, clear, out, grant, revoke, raise, exp-of, cmd-of}
-use Rattle.monitor.specs.Rules.{Key, ranged, expr, Env, choose, trigger-run, fire, write-cell, command, eval, exec, program, run}
+use Rattle.monitor.specs.Rules.{Key, ranged, expr, Env, choose, posting, trigger-run, fire, write-cell, command, eval, exec, program, run}
 use Rattle.capi.proofs.Fields.{Fields, Named}
 
 -- a run from a state whose trace has room for this many records
@@ -199,12 +199,10 @@ module _ (b : Book) (named : Named b) where
 
   module _ (labels : Bool) (rec : Env → ℕ → M (Unit {0})) (r : (e : Env) (i : ℕ) → i < 1024 → Keeps (rec e i)) where
     keeps-write : (e : Env) (i event p : ℕ) (k : Lab Key) (z : Lab Cell) → i < 1024 → Keeps (write-cell b labels rec e i event p k z)
-    unfolding write-cell fire trigger-run
+    unfolding write-cell posting fire trigger-run
     keeps-write e i event p k z l =
-        keeps-bind (keeps-need _ 23 i l) λ _.
-        keeps-bind (keeps-look _) λ _.
-        keeps-bind (keeps-need _ 24 i l) λ _.
-        keeps-bind (keeps-set-cell labels i _ _ _ l) λ _.
+        keeps-bind
+        (keeps-bind (keeps-need _ 23 i l) λ _. keeps-bind (keeps-look _) λ _. keeps-bind (keeps-need _ 24 i l) λ _. keeps-set-cell labels i _ _ _ l) λ _.
         keeps-each _ 0 _ λ n _. keeps-when _ (keeps-own _ (r _ _ (named .triggers _)))
 
     module _ (ev : ℕ → M (Lab ℤ)) (k : (a : ℕ) → a < 1024 → Keeps (ev a)) where

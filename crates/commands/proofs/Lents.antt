@@ -13,9 +13,10 @@ use Rattle.book.specs.Records.{NodeRecord}
 use Rattle.book.specs.Layout.{decode}
 use Rattle.book.specs.Kinds.{expression, command, between, cost-of}
 use Rattle.book.specs.Refusals.{node-at}
+use Rattle.book.specs.Start.{Lengths}
 use Rattle.book.proofs.Chains.{both}
 use Rattle.monitor.specs.Rules.{cost-at}
-use Rattle.machine.specs.Ready.{script-of, Ready, Lengths, Node, Lent}
+use Rattle.machine.specs.Ready.{script-of, Ready, Node, Lent}
 use Rattle.machine.proofs.Nodes.{script-node, Read, Child, read-at, cost-read, if-a, while-a}
 
 -- the record of a command that is run

@@ -12,10 +12,11 @@ use Rattle.places.specs.Sets.{union}
 use Rattle.book.specs.Records.{NodeRecord}
 use Rattle.book.specs.Layout.{decode}
 use Rattle.book.specs.Refusals.{node-at, is-zero}
+use Rattle.book.specs.Start.{Lengths}
 use Rattle.monitor.specs.Labelled.{Label, bottom, Lab}
 use Rattle.monitor.specs.Run.{State, Rec, Out, M, after, next, _>>=_, _>>_, ret}
 use Rattle.monitor.specs.Rules.{Env, within-label, choose, cost-at, command, exec}
-use Rattle.machine.specs.Ready.{script-of, Lengths}
+use Rattle.machine.specs.Ready.{script-of}
 use Rattle.machine.specs.Store.{Store, state, with-records}
 use Rattle.machine.specs.Promises.{Gives, Evaluates, ran, stop-of, ended, Does, env, Enters, Commands}
 use Rattle.machine.specs.declared.Value.the-variants as value
@@ -28,8 +29,7 @@ use Rattle.commands.specs.declared.Decided.{Decided}
 use Rattle.commands.specs.Parts.{leads, end-of, Decides, paid}
 use Rattle.machine.proofs.Traces.{with-none}
 use Rattle.machine.proofs.Nodes.{command-is}
-use Rattle.machine.proofs.Runs.{cells, done-not-stopped, after-none, after-ended, next-done, next-known, does-as, quietly, then-stops, then-goes, value-stops, value-goes}
-use Rattle.machine.proofs.WriteParts.{after-after}
+use Rattle.machine.proofs.Runs.{cells, done-not-stopped, after-none, after-after, after-ended, next-done, next-known, does-as, quietly, then-stops, then-goes, value-stops, value-goes}
 use Rattle.commands.proofs.Steps.{joined, same-length, same-trace, entered, spent, enters-not, entry-costs}
 use Rattle.commands.proofs.Ways.{Turns, while-ends, while-goes}
 use Rattle.commands.proofs.Meanings.{as-while}

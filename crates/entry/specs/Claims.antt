@@ -17,7 +17,8 @@ NoLabelsSame = (file : List ℕ) (budget : ℕ) (before after : Memory) (r : Ans
 
 -- Demand 3, two books side by side: two calls of the entry, with any budgets, any trace lengths and any earlier contents of lent memory.
 -- Both books are accepted, and they differ only in cells outside the reach that the group has in the first. Then of the two traces that
--- the group sees one begins the other; and where both runs finish, the traces are the same, and so are the cells inside the reach.
+-- the group sees one begins the other; a run that finishes shows the group all that the other shows; and where both runs finish, the
+-- traces are the same, and so are the cells inside the reach.
 abbrev pub Demand3 : Type 0
 Demand3 = (g : Group) (file file' : List ℕ) (budget budget' : ℕ) (before before' after after' : Memory) (r r' : Answer)
     → Runs file budget before r after → Runs file' budget' before' r' after'

@@ -18,7 +18,7 @@ use Rattle.book.proofs.Chains.{both}
 use Rattle.monitor.specs.Labelled.{bottom, Lab, lit, lift, lift2, via}
 use Rattle.monitor.specs.Run.{Cell, M, next, _>>=_, look}
 use Rattle.monitor.specs.Syntax.{exp-of}
-use Rattle.monitor.specs.Rules.{key, bounds, in-box, gather, seen, aggregate, ranged, expr, eval}
+use Rattle.monitor.specs.Rules.{from-to, box-of, in-box, gather, seen, aggregate, ranged, expr, eval}
 use Rattle.monitor.specs.Call.{script}
 use Rattle.machine.specs.Ready.{script-of}
 use Rattle.machine.specs.Promises.{Gives, Evaluates, Expresses, given}
@@ -55,7 +55,7 @@ pair-is ev n x e = go (ℕ-discrete (x .kind) 3) (ℕ-discrete (x .kind) 4) (ℕ
 
 -- the rest of a query after its four bounds
 abbrev aggregating : NodeRecord → ℕ → Lab ℤ → Lab ℤ → Lab ℤ → Lab ℤ → M (Lab ℤ)
-aggregating x n t u v w = look (seen (x .p) (bounds t u v w)) >>= λ cells. ranged n (lift (aggregate (x .kind)) cells)
+aggregating x n t u v w = look (seen (x .p) (box-of t u v w)) >>= λ cells. ranged n (lift (aggregate (x .kind)) cells)
 
 -- and after three, two and one
 module _ (ev : ℕ → M (Lab ℤ)) (x : NodeRecord) (n : ℕ) where
@@ -79,9 +79,9 @@ aggregating-gives : (cells : ℕ → Lab Cell) (vars : ℕ → Lab ℤ) (x : Nod
     → found ≡ found-in (x .kind) cells (box (t .val) (u .val) (v .val) (w .val)) (x .p)
     → Gives (λ fuel. aggregating x n t u v w) cells vars left
     (valued (held-to-32 (found .value) n) left (union (union (union (t .lab) (u .lab)) (union (v .lab) (w .lab))) (found .label)))
-unfolding next seen via bounds key lift lift2 found-in
+unfolding next seen via box-of from-to lift lift2 found-in
 aggregating-gives cells vars x n left t u v w e =
-    let picked : Lab ℤ = lift (aggregate (x .kind)) (via (bounds t u v w) (λ b. gather cells (in-box b) (64 * x .p) 64)) in
+    let picked : Lab ℤ = lift (aggregate (x .kind)) (via (box-of t u v w) (λ b. gather cells (in-box b) (64 * x .p) 64)) in
     let g = ranged-gives cells vars n left picked in
     rw e (record {
       is = λ fuel h rights room. after-none (ranged n picked _) ∙ g .is fuel h rights room;

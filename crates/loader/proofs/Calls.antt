@@ -7,15 +7,15 @@ use lib.IntN.{ℤ}
 use borrow.Author.Tests.{eq-eqb}
 use Rattle.book.specs.Layout.{decode}
 use Rattle.book.specs.Refusals.{verdict}
-use Rattle.book.specs.Start.{start-amounts, start-presence, start-labels}
+use Rattle.book.specs.Start.{Lengths, start-amounts, start-presence, start-labels}
 use Rattle.book.specs.declared.Verdict.{Verdict}
 use Rattle.book.specs.declared.Verdict.the-variants.{Accepted, Refused}
 use Rattle.book.proofs.Chains.{pass}
 use Rattle.book.proofs.Verdicts.{passes, stops, need-passes, need-stops}
-use Rattle.loader.specs.Load.{where-accepted, lent-fits, load-verdict, Loaded, load-call, Lent}
+use Rattle.loader.specs.Load.{where-accepted, lent-fits, load-verdict, Loaded, load-call}
 
 -- lent memory of the right lengths passes refusal 1
-pub lent : {amounts : List ℤ} {presence labels : List ℕ} → Lent amounts presence labels → lent-fits amounts presence labels ≡ true
+pub lent : {amounts : List ℤ} {presence labels : List ℕ} → Lengths amounts presence labels → lent-fits amounts presence labels ≡ true
 lent l = pass (eq-eqb _ 512 (l .amounts-are)) (pass (eq-eqb _ 8 (l .presence-is)) (eq-eqb _ 4096 (l .labels-are)))
 
 module _ (file : List ℕ) (amounts : List ℤ) (presence labels : List ℕ) where

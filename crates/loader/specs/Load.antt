@@ -1,5 +1,4 @@
 -- Loading: from all that the call is given to all that it leaves.
-use mathlib.Core.Path.{_≡_}
 use mathlib.Core.List.{List}
 use mathlib.Core.Bool.{Bool, _&&_}
 use Prim.Native.Nat.{ℕ}
@@ -41,9 +40,3 @@ load-call file amounts presence labels =
       presence = where-accepted v (start-presence (decode file)) presence;
       labels = where-accepted v start-labels labels;
     }
-
--- lent memory of the lengths that loading asks for
-pub record Lent (amounts : List ℤ) (presence labels : List ℕ) : Type 0 where
-  pub amounts-are : length amounts ≡ 512
-  pub presence-is : length presence ≡ 8
-  pub labels-are : length labels ≡ 4096

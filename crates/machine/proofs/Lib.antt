@@ -4,4 +4,3 @@ pub mod Runs
 pub mod Scripts
 pub mod Stores
 pub mod Traces
-pub mod WriteParts

@@ -1,6 +1,6 @@
 -- `Does`, from one step to the next: tests, an expression whose value is needed, and commands that follow one another. Assumes nothing.
 use mathlib.Core.Path.{_≡_, refl, sym, ap, _∙_, subst}
-use mathlib.Core.List.{List, [], _++_}
+use mathlib.Core.List.{List, [], _++_, append-assoc}
 use mathlib.Core.Bool.{Bool, true, false, false≢true}
 use Prim.Native.Nat.{ℕ, _+_, _*_, _≤_, _<_}
 use native.Mathlib.Omega.{arith}
@@ -49,6 +49,11 @@ pub after-none : {A : Type 0} (o : Out A) → after [] o ≡ o
 unfolding after
 after-none (done records a s) = refl
 after-none (stop records h s) = refl
+
+pub after-after : {A : Type 0} (t u : List Rec) (o : Out A) → after t (after u o) ≡ after (t ++ u) o
+unfolding after
+after-after t u (done v a s) = ap (λ (r : List Rec). done r a s) (sym (append-assoc t u v))
+after-after t u (stop v h s) = ap (λ (r : List Rec). stop r h s) (sym (append-assoc t u v))
 
 pub after-ended : (o : Outcome) (obstacle : Label) (a b : List Rec) (s : State) → after a (ended o obstacle b s) ≡ ended o obstacle (a ++ b) s
 unfolding after ended

@@ -65,11 +65,11 @@ module _ (trace : List ℕ) (used : ℕ) where
         rw (take-at front (drop end trace) end long, rest, append-assoc (take used trace) (trace-bytes a) (trace-bytes b), ← bytes-append a b, ends)
 
 -- one record, written at the start of the part that is lent from byte `used` on
-pub recorded : (trace : List ℕ) (used : ℕ) (r : Rec) {part : List ℕ} → used + 8 ≤ length trace
+pub record-added : (trace : List ℕ) (used : ℕ) (r : Rec) {part : List ℕ} → used + 8 ≤ length trace
     → part ≡ record-bytes r ++ drop 8 (take (length trace - used) (drop used trace))
     → take used trace ++ (part ++ drop (length trace - used) (drop used trace)) ≡ with-records trace used (r ∷ [])
 unfolding with-records trace-bytes
-recorded trace used r {part} h e =
+record-added trace used r {part} h e =
     let size : ℕ = length trace - used in
     let whole : take size (drop used trace) ≡ drop used trace = take-all size (drop used trace) (omega (arith, length-drop used trace)) in
     let sum : used + size ≡ length trace = omega arith in

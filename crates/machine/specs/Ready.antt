@@ -8,7 +8,7 @@ use Rattle.book.specs.Records.{Book}
 use Rattle.book.specs.Layout.{count, section, decode}
 use Rattle.book.specs.Kinds.{cost-of, sort-of}
 use Rattle.book.specs.Refusals.{node-at, verdict}
-use Rattle.book.specs.Start.{tabulate, public-set}
+use Rattle.book.specs.Start.{Lengths, tabulate, public-set}
 use Rattle.book.specs.declared.Verdict.the-variants.{Accepted}
 use Rattle.monitor.specs.Call.{script}
 
@@ -21,12 +21,6 @@ pub record Ready (file : List ℕ) (nodes : ℕ) (costs : List ℕ) : Type 0 whe
   pub accepted : verdict file ≡ Accepted
   pub nodes-start : nodes ≡ section file 3 .start
   pub costs-are : costs ≡ tabulate cost-of 27
-
--- memory for the cells, of the paper's lengths
-pub record Lengths (amounts : List ℤ) (presence labels : List ℕ) : Type 0 where
-  pub amounts-are : length amounts ≡ 512
-  pub presence-is : length presence ≡ 8
-  pub labels-are : length labels ≡ 4096
 
 -- n is a node of this sort
 pub record Node (sort : ℕ) (file : List ℕ) (n : ℕ) : Type 0 where

@@ -1,13 +1,12 @@
--- The parts of the write of a cell: the tests with the write itself, and the triggers that it fires.
+-- What is promised of the two parts of the write of a cell: the tests with the write itself, and the triggers that it fires.
 use mathlib.Core.Path.{_≡_}
 use mathlib.Core.List.{List, []}
 use mathlib.Core.Bool.{true}
 use Prim.Native.Nat.{ℕ, _<_}
 use lib.IntN.{ℤ}
-use Rattle.places.specs.Sets.{has}
-use Rattle.monitor.specs.Labelled.{Label, Lab, under}
-use Rattle.monitor.specs.Run.{Cell, M, _>>=_, _>>_, look, plainly, need, set-cell}
-use Rattle.monitor.specs.Rules.{Key, key-place, in-table, fire, exec}
+use Rattle.monitor.specs.Labelled.{Label, Lab}
+use Rattle.monitor.specs.Run.{Cell, M}
+use Rattle.monitor.specs.Rules.{Key, key-place, posting, fire, exec}
 use Rattle.monitor.specs.Call.{rows}
 use Rattle.machine.specs.Ready.{script-of}
 use Rattle.machine.specs.Promises.{Ends, env}
@@ -19,14 +18,6 @@ use Rattle.machine.specs.declared.Posted.the-variants as posted
 abbrev pub key-of : ℤ → ℤ → Key
 key-of owner line = record { owner = owner; line = line }
 
--- the rule of put and clear up to its triggers, in context plus key label: tests 23, 24 and 26, and the write
-unfoldable pub posting : ℕ → Label → ℕ → ℕ → Key → Lab Cell → M (Unit {0})
-posting n ctx user table k z = do
-  need (plainly (in-table k)) 23 n
-  r ← look (λ s. s .rights)
-  need (plainly (has (r .write user) (key-place table k))) 24 n
-  set-cell true n ctx (key-place table k) (under ctx z)
-
 unfoldable pub posted-end : Posted → Outcome
 posted-end (posted.At place) = Done
 posted-end (posted.Stopped number node) = Stopped number node
@@ -34,7 +25,7 @@ posted-end (posted.Stopped number node) = Stopped number node
 -- the tests and the write, whatever the variables, the read sets, the budget and the trace
 pub record Posts (n : ℕ) (ctx : Label) (user table : ℕ) (k : Key) (z : Lab Cell) (write : List (List ℕ)) (cells : ℕ → Lab Cell) (r : Posted) (cells' : ℕ → Lab Cell) : Type 0 where
   pub ends : (vars : ℕ → Lab ℤ) (read : ℕ → Label) (left room : ℕ)
-      → Ends (posting n ctx user table k z)
+      → Ends (posting true n ctx user table k z)
       (record { cells = cells; vars = vars; rights = record { read = read; write = rows write }; left = left; room = room })
       [] (posted-end r)
       (record { cells = cells'; vars = vars; rights = record { read = read; write = rows write }; left = left; room = room })

@@ -7,7 +7,7 @@ use Prim.Native.Nat.{ℕ, _/_, _≤_, _<_}
 use native.Mathlib.Decide.{decLt}
 use native.Mathlib.Omega.{arith}
 use lib.ListN.{length}
-use Rattle.book.specs.Records.{Book}
+use Rattle.book.specs.Records.{Book, SameScripts}
 use Rattle.book.specs.Layout.{decode}
 use Rattle.book.specs.declared.Verdict.{Verdict}
 use Rattle.book.specs.declared.Verdict.the-variants.{Accepted, Refused}
@@ -64,6 +64,8 @@ learns g R budget budget' m m' {o} {o'} f f' a =
     let second = call-seen g budget' m' o' (fine-records f') in
     record {
       begins = rw (first, second) (begin (a .begins));
+      first-whole = λ d. rw (first, second) (begins-bytes (a .first-whole (finished-is budget m o d)));
+      second-whole = λ d. rw (first, second) (begins-bytes (a .second-whole (finished-is budget' m' o' d)));
       traces = λ d d'. first ∙ ap (map record-bytes) (a .traces (finished-is budget m o d) (finished-is budget' m' o' d')) ∙ sym second;
       cells = λ d d'. record { same = cells (finished-is budget m o d) (finished-is budget' m' o' d') };
     }
@@ -80,8 +82,8 @@ learns g R budget budget' m m' {o} {o'} f f' a =
     cells d d' q h =
         rw (left-cells budget m o (fine-end f .cells) q h, left-cells budget' m' o' (fine-end f' .cells) q h) (a .cells d d' q)
 
--- two books that differ only outside have one script
-one-script : {R : Label} {file file' : List ℕ} → DifferOutside R file file' → script (decode file) ≡ script (decode file')
+-- books with the same records but for their cells have one script
+one-script : {b b' : Book} → SameScripts b b' → script b ≡ script b'
 unfolding script
 one-script d = λ i.
     record { cells = []; regions = d .regions i; rights = d .rights i; nodes = d .nodes i; programs = d .programs i; triggers = d .triggers i }
@@ -107,9 +109,9 @@ runs-agree g file file' budget budget' m m' d =
     let o = ran file budget m in
     let s = start-state b budget (length (m .trace) / 8) in
     let s' = start-state b' budget' (length (m' .trace) / 8) in
-    subst (λ c. Agree g (reach g file (result-of budget m o)) o (run c true budget' s')) (one-script d)
+    subst (λ c. Agree g (reach g file (result-of budget m o)) o (run c true budget' s')) (one-script (d .scripts))
     (two-runs (script b) g (reach g file (result-of budget m o)) s s' budget budget'
-    (sym (script-start b) ∙ ap start-rights (one-script d) ∙ script-start b')
+    (sym (script-start b) ∙ ap start-rights (one-script (d .scripts)) ∙ script-start b')
     refl
     (rw (script-public b) (reach-public g file budget m o))
     (reach-read g file budget m o)

@@ -14,7 +14,7 @@ use Rattle.book.specs.Start.{public-set}
 use Rattle.monitor.specs.Labelled.{Label, bottom, Lab, lift2, under}
 use Rattle.monitor.specs.Run.{Cell, held, Rights, State, changed, M, _>>=_, _>>_, ret, update}
 use Rattle.monitor.specs.Syntax.{Exp, const, var, add, minus, less, query, Cmd, skip, assign, seq, branch, while, put, clear, out, grant, revoke, raise}
-use Rattle.monitor.specs.Rules.{Key, key, Box, bounds, in-box, gather, seen, aggregate, ranged, expr, Env, within-label, choose, trigger-vars, region-places, granted, revoked, trigger-run, fire, write-cell, command, eval, exec, program, run}
+use Rattle.monitor.specs.Rules.{Key, key, from-to, Box, box-of, in-box, gather, seen, aggregate, ranged, expr, Env, within-label, choose, posting, trigger-vars, region-places, granted, revoked, trigger-run, fire, write-cell, command, eval, exec, program, run}
 use Rattle.monitor.specs.TwoBooks.{Group}
 use Rattle.monitor.proofs.Views.{seen-of, gift}
 use Rattle.monitor.proofs.Low.{View, Hidden, hidden-left, hidden-right, Same, equal, same-inside, same-lift, same-lift2, same-via, same-under, same-raised, same-update, Safe, Alike}
@@ -51,10 +51,10 @@ same-key : {R : Label} {x x' y y' : Lab ℤ} → Same R x x' → Same R y y' →
 unfolding key
 same-key e f = same-lift2 _ e f
 
-same-bounds : {R : Label} {w w' x x' y y' z z' : Lab ℤ}
-    → Same R w w' → Same R x x' → Same R y y' → Same R z z' → Same R (bounds w x y z) (bounds w' x' y' z')
-unfolding bounds
-same-bounds d e f g = same-lift2 _ (same-key d e) (same-key f g)
+same-box : {R : Label} {w w' x x' y y' z z' : Lab ℤ}
+    → Same R w w' → Same R x x' → Same R y y' → Same R z z' → Same R (box-of w x y z) (box-of w' x' y' z')
+unfolding box-of from-to
+same-box d e f g = same-lift2 _ (same-lift2 _ d e) (same-lift2 _ f g)
 
 module _ {v : View} (ev : ℕ → M (Lab ℤ)) (k : (a : ℕ) → Still v Any (ev a)) where
   still-two : (i a c : ℕ) (f : ℤ → ℤ → ℤ) → Still v Any (ev a >>= λ x. ev c >>= λ y. ranged i (lift2 f x y))
@@ -87,7 +87,7 @@ module _ {v : View} (ev ev' : ℕ → M (Lab ℤ)) (k : (a : ℕ) → Pair v (Sa
   pair-expr i (less a c) = pair-two i a c _
   pair-expr i (query kind p a c d e) =
       pair-bind (k a) λ _ _ w. pair-bind (k c) λ _ _ x. pair-bind (k d) λ _ _ y. pair-bind (k e) λ _ _ z.
-      pair-bind (pair-look _ _ (λ s t r. same-seen p (same-bounds w x y z) r)) λ _ _ q. pair-ranged i (same-lift (aggregate kind) q)
+      pair-bind (pair-look _ _ (λ s t r. same-seen p (same-box w x y z) r)) λ _ _ q. pair-ranged i (same-lift (aggregate kind) q)
 
 still-eval : {v : View} (b : Book) (fuel i : ℕ) → Still v Any (eval b fuel i)
 unfolding eval seen-of
@@ -123,6 +123,23 @@ same-trigger-vars : {R : Label} (c : Label) (k : Key) {z z' : Lab Cell}
 unfolding trigger-vars
 same-trigger-vars c k e = same-update 2 (λ p. equal refl) (same-under c (same-lift (λ x. x .amount) e))
 
+still-posting : {v : View} (i : ℕ) {c : Label} (user p : ℕ) (k : Key) (z : Lab Cell) → Hidden (v .R) c → Still v Any (posting true i c user p k z)
+unfolding posting under
+still-posting i user p k z l =
+    still-bind (still-need _ 23 i) λ _ _.
+    still-bind {P = Any} (still-look _ (λ s r. tt)) λ _ _.
+    still-bind (still-need _ 24 i) λ _ _.
+    still-set-cell i _ _ l (hidden-left (z .lab) l)
+
+pair-posting : {v : View} (i : ℕ) (c : Label) (user p : ℕ) (k : Key) {z z' : Lab Cell}
+    → Same (v .R) z z' → Pair v Both (posting true i c user p k z) (posting true i c user p k z')
+unfolding posting
+pair-posting i c user p k w =
+    pair-bind (pair-need _ _ 23 i) λ _ _ _.
+    pair-bind {Q = Both} (pair-look _ _ (λ s t r. tt)) λ _ _ _.
+    pair-bind (pair-need _ _ 24 i) λ _ _ _.
+    pair-set-cell i _ _ (same-under _ w)
+
 -- what is known of the children: they show nothing in a hidden context
 abbrev StillIn : View → (Env → ℕ → M (Unit {0})) → Type 0
 StillIn v rec = (e : Env) (i : ℕ) → Hidden (v .R) (e .ctx) → Still v Any (rec e i)
@@ -144,13 +161,8 @@ module _ {v : View} (rec : Env → ℕ → M (Unit {0})) (h : StillIn v rec) whe
 
   still-write : (b : Book) (e : Env) (i event p : ℕ) (k : Lab Key) (z : Lab Cell)
       → Hidden (v .R) (union (e .ctx) (k .lab)) → Still v Any (write-cell b true rec e i event p k z)
-  unfolding write-cell under within-label
-  still-write b e i event p k z l =
-      still-bind (still-need _ 23 i) λ _ _.
-      still-bind {P = Any} (still-look _ (λ s r. tt)) λ _ _.
-      still-bind (still-need _ 24 i) λ _ _.
-      still-bind (still-set-cell i _ _ l (hidden-left (z .lab) l)) λ _ _.
-      still-fire b _ event _ (k .val) z l
+  unfolding write-cell within-label
+  still-write b e i event p k z l = still-bind (still-posting i (e .user) p (k .val) z l) λ _ _. still-fire b _ event _ (k .val) z l
 
 -- and of two runs of them
 record PairIn (v : View) (rec rec' : Env → ℕ → M (Unit {0})) : Type 0 where
@@ -167,12 +179,7 @@ module _ {v : View} (rec rec' : Env → ℕ → M (Unit {0})) (h : PairIn v rec 
   pair-write : (b : Book) (e : Env) (i event p : ℕ) (k : Lab Key) {z z' : Lab Cell}
       → Same (v .R) z z' → Pair v Both (write-cell b true rec e i event p k z) (write-cell b true rec' e i event p k z')
   unfolding write-cell
-  pair-write b e i event p k w =
-      pair-bind (pair-need _ _ 23 i) λ _ _ _.
-      pair-bind {Q = Both} (pair-look _ _ (λ s t r. tt)) λ _ _ _.
-      pair-bind (pair-need _ _ 24 i) λ _ _ _.
-      pair-bind (pair-set-cell i _ _ (same-under _ w)) λ _ _ _.
-      pair-fire b _ event _ (k .val) w
+  pair-write b e i event p k w = pair-bind (pair-posting i _ (e .user) p (k .val) w) λ _ _ _. pair-fire b _ event _ (k .val) w
 
   -- keys that differ are hidden, and so are both writes
   pair-keys : (b : Book) (e : Env) (i event p : ℕ) {k k' : Lab Key} {z z' : Lab Cell} → Same (v .R) k k' → Same (v .R) z z'

@@ -152,13 +152,6 @@ spend-exec b labels (suc n) (suc fuel) (suc fuel') e i h h' =
     (eval b fuel) (eval b fuel') (λ a. spend-eval b n fuel fuel' a (omega arith) (omega arith)) b
     (exec b labels fuel) (exec b labels fuel') (λ e i. spend-exec b labels n fuel fuel' e i (omega arith) (omega arith)) e i _)
 
-pub eval-fuel : (b : Book) (fuel fuel' i : ℕ) (s : State) → s .left ≤ fuel → s .left ≤ fuel' → eval b fuel i s ≡ eval b fuel' i s
-eval-fuel b fuel fuel' i s h h' = spend-eval b (s .left) fuel fuel' i h h' s (le-refl _) .same
-
-pub exec-fuel : (b : Book) (labels : Bool) (fuel fuel' : ℕ) (e : Env) (i : ℕ) (s : State)
-    → s .left ≤ fuel → s .left ≤ fuel' → exec b labels fuel e i s ≡ exec b labels fuel' e i s
-exec-fuel b labels fuel fuel' e i s h h' = spend-exec b labels (s .left) fuel fuel' e i h h' s (le-refl _) .same
-
 pub fuel-enough : FuelEnough
 unfolding run program
 fuel-enough b labels fuel fuel' s h h' =

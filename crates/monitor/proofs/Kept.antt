@@ -9,7 +9,7 @@ use Rattle.book.specs.Refusals.{is-zero}
 use Rattle.monitor.specs.Labelled.{Label, Lab, lift2}
 use Rattle.monitor.specs.Run.{Cell, State, Rec, M, _>>=_, ret, look, each, when, plainly, inside, guard, need, commit, set-var, set-cell, tell, own}
 use Rattle.monitor.specs.Syntax.{Exp, const, var, add, minus, equal, less, query, Cmd, skip, assign, seq, branch, while, put, clear, out, grant, revoke, raise}
-use Rattle.monitor.specs.Rules.{Key, ranged, expr, Env, choose, trigger-run, fire, write-cell, command}
+use Rattle.monitor.specs.Rules.{Key, ranged, expr, Env, choose, posting, trigger-run, fire, write-cell, command}
 
 -- a relation between runs
 abbrev pub Relation : Type 1
@@ -59,6 +59,14 @@ module _ {labels labels' : Bool} {Rel : Relation} (kept : Kept labels labels' Re
   eaches [] h = returns tt
   eaches (x ∷ xs) h = binds (h x) λ _. eaches xs h
 
+  posts : (i : ℕ) (c : Label) (user p : ℕ) (k : Key) (z : Lab Cell) → Rel (Unit {0}) (posting labels i c user p k z) (posting labels' i c user p k z)
+  unfolding posting set-cell
+  posts i c user p k z =
+      binds (needs _ 23 i) λ _.
+      binds (looks _) λ _.
+      binds (needs _ 24 i) λ _.
+      label-tests _ _ 26 i (commits [] _ (λ s. refl))
+
   module _ (ev ev' : ℕ → M (Lab ℤ)) (k : (a : ℕ) → Rel (Lab ℤ) (ev a) (ev' a)) where
     ranges : (i : ℕ) (x : Lab ℤ) → Rel (Lab ℤ) (ranged i x) (ranged i x)
     unfolding ranged
@@ -82,13 +90,8 @@ module _ {labels labels' : Bool} {Rel : Relation} (kept : Kept labels labels' Re
     module _ (b : Book) (rec rec' : Env → ℕ → M (Unit {0})) (h : (e : Env) (i : ℕ) → Rel (Unit {0}) (rec e i) (rec' e i)) where
       writes : (e : Env) (i event p : ℕ) (x : Lab Key) (z : Lab Cell)
           → Rel (Unit {0}) (write-cell b labels rec e i event p x z) (write-cell b labels' rec' e i event p x z)
-      unfolding write-cell fire trigger-run set-cell
-      writes e i event p x z =
-          binds (needs _ 23 i) λ _.
-          binds (looks _) λ _.
-          binds (needs _ 24 i) λ _.
-          binds (label-tests _ _ 26 i (commits [] _ (λ s. refl))) λ _.
-          eaches _ λ n. whens _ (owns _ (h _ _))
+      unfolding write-cell fire trigger-run
+      writes e i event p x z = binds (posts i _ (e .user) p (x .val) z) λ _. eaches _ λ n. whens _ (owns _ (h _ _))
 
       pub commands : (e : Env) (i : ℕ) (x : Cmd) → Rel (Unit {0}) (command b labels ev rec e i x) (command b labels' ev' rec' e i x)
       unfolding command set-var tell

@@ -20,7 +20,7 @@ use Rattle.book.specs.Refusals.{no-region, is-zero}
 use Rattle.monitor.specs.Labelled.{Label, Lab, lit, lift, lift2, via, under}
 use Rattle.monitor.specs.Run.{Cell, Rights, State, Rec, said, changed, Halt, Out, done, stop, M, after, next, _>>=_, ret, look, each, when, Test, guard, need, commit, update, with-vars, pay, set-var, set-cell, tell, sixteen, restore, own}
 use Rattle.monitor.specs.Syntax.{Exp, const, var, add, minus, equal, less, query, Cmd, skip, assign, seq, branch, while, put, clear, out, grant, revoke, raise}
-use Rattle.monitor.specs.Rules.{Key, key, Box, bounds, in-box, gather, seen, ranged, expr, Env, within-label, choose, trigger-vars, region-places, trigger-run, fire, write-cell, command, eval, exec, program, run}
+use Rattle.monitor.specs.Rules.{Key, key, from-to, Box, box-of, in-box, gather, seen, ranged, expr, Env, within-label, choose, posting, trigger-vars, region-places, trigger-run, fire, write-cell, command, eval, exec, program, run}
 use Rattle.monitor.specs.Call.{script, start-cells, start-state, run-book}
 use Rattle.monitor.proofs.Views.{records, end}
 use Rattle.monitor.proofs.Steps.{Any}
@@ -187,9 +187,9 @@ short-seen : (p : ℕ) (x : Lab Box) (s : State) → Short x → Sized s → Sho
 unfolding seen via
 short-seen p x s h f = short-union (x .lab) _ h (short-gather (s .cells) (in-box (x .val)) (64 * p) 64 (f .short))
 
-short-bounds : (w x y z : Lab ℤ) → Short w → Short x → Short y → Short z → Short (bounds w x y z)
-unfolding bounds key
-short-bounds w x y z h i j k = short-lift2 _ _ _ (short-lift2 _ w x h i) (short-lift2 _ y z j k)
+short-box : (w x y z : Lab ℤ) → Short w → Short x → Short y → Short z → Short (box-of w x y z)
+unfolding box-of from-to
+short-box w x y z h i j k = short-lift2 _ _ _ (short-lift2 _ w x h i) (short-lift2 _ y z j k)
 
 keeps-ranged : (i : ℕ) (x : Lab ℤ) → Short x → Keeps Short (ranged i x)
 unfolding ranged
@@ -209,7 +209,7 @@ module _ (ev : ℕ → M (Lab ℤ)) (k : (a : ℕ) → Keeps Short (ev a)) where
   keeps-expr i (less a c) = keeps-two i a c _
   keeps-expr i (query kind p a c d e) =
       keeps-bind (k a) λ w h. keeps-bind (k c) λ x l. keeps-bind (k d) λ y m. keeps-bind (k e) λ z n.
-      keeps-bind (keeps-look _ (λ s f. short-seen p (bounds w x y z) s (short-bounds w x y z h l m n) f)) λ cells q. keeps-ranged i _ q
+      keeps-bind (keeps-look _ (λ s f. short-seen p (box-of w x y z) s (short-box w x y z h l m n) f)) λ cells q. keeps-ranged i _ q
 
 keeps-eval : (b : Book) (fuel i : ℕ) → Keeps Short (eval b fuel i)
 unfolding eval
@@ -252,6 +252,15 @@ short-region : (b : Book) (n : ℕ) → length (region-places b n) ≤ 8
 unfolding region-places
 short-region b n = omega (arith, length-region 8 (region-of (getD (b .regions) n no-region)))
 
+keeps-posting : (labels : Bool) (i : ℕ) (c : Label) (user p : ℕ) (k : Key) (z : Lab Cell)
+    → length c ≡ 8 → Short z → Keeps Any (posting labels i c user p k z)
+unfolding posting under
+keeps-posting labels i c user p k z h l =
+    keeps-bind (keeps-need _ 23 i) λ _ _.
+    keeps-bind {P = Any} (keeps-look _ (λ s f. tt)) λ _ _.
+    keeps-bind (keeps-need _ 24 i) λ _ _.
+    keeps-set-cell labels i _ _ _ (whole-union c (z .lab) h l)
+
 module _ (b : Book) (labels : Bool) (rec : Env → ℕ → M (Unit {0})) (r : (e : Env) (i : ℕ) → Whole e → Keeps Any (rec e i)) where
   keeps-fire : (e : Env) (event q : ℕ) (k : Key) (z : Lab Cell) → Whole e → Short z → Keeps Any (fire b labels rec e event q k z)
   unfolding fire trigger-run
@@ -259,12 +268,9 @@ module _ (b : Book) (labels : Bool) (rec : Env → ℕ → M (Unit {0})) (r : (e
 
   keeps-write : (e : Env) (i event p : ℕ) (k : Lab Key) (z : Lab Cell)
       → Whole e → Short k → Short z → Keeps Any (write-cell b labels rec e i event p k z)
-  unfolding write-cell under
+  unfolding write-cell
   keeps-write e i event p k z h l m =
-      keeps-bind (keeps-need _ 23 i) λ _ _.
-      keeps-bind {P = Any} (keeps-look _ (λ s f. tt)) λ _ _.
-      keeps-bind (keeps-need _ 24 i) λ _ _.
-      keeps-bind (keeps-set-cell labels i _ _ _ (whole-union _ (z .lab) (whole-union (e .ctx) (k .lab) h l) m)) λ _ _.
+      keeps-bind (keeps-posting labels i _ (e .user) p (k .val) z (whole-union (e .ctx) (k .lab) h l) m) λ _ _.
       keeps-fire (within-label e k) event _ (k .val) z (whole-within e k h l) m
 
   module _ (ev : ℕ → M (Lab ℤ)) (k : (a : ℕ) → Keeps Short (ev a)) where

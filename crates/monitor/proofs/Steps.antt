@@ -9,7 +9,7 @@ use lib.IntN.{ℤ}
 use Rattle.places.specs.Sets.{Within}
 use Rattle.places.proofs.Sets.{within-trans, empty-within, within-union-left, within-union-right, union-least}
 use Rattle.monitor.specs.Labelled.{Label, bottom, Lab}
-use Rattle.monitor.specs.Run.{Cell, Rights, State, Rec, said, Halt, Out, done, stop, M, after, next, _>>=_, ret, look, each, when, Test, guard, need, commit, with-vars, with-rights, pay, set-var, set-cell, tell, restore, own}
+use Rattle.monitor.specs.Run.{Cell, Rights, State, Rec, said, Halt, Out, done, stop, M, after, next, _>>=_, ret, look, each, when, Test, guard, need, commit, with-vars, recorded, pay, set-var, set-cell, tell, restore, own}
 use Rattle.monitor.specs.TwoBooks.{Group}
 use Rattle.monitor.proofs.Views.{records, sees, keep, seen-of, gifts, Begun}
 use Rattle.monitor.proofs.Guards.{Guarded, passed, failed, guarded}
@@ -302,7 +302,7 @@ pair-changed {v} i r f h = go (within? (v .gift r) (v .R))
     go : Within (v .gift r) (v .R) ⊎ Hidden (v .R) (v .gift r) → Pair v Both (tell i r f) (tell i r f)
     go (inl l) = pair-commit _ _ 30 i _ _ _ _ refl λ s s' a.
         record { cells = a .cells; vars = a .vars; rights = ap f (a .rights); safe = h (s .rights) (a .safe) l }
-    go (inr l) = λ s s' a. match-beyond (hidden-left bottom l) (guarded _ 30 i (commit (r ∷ []) (with-rights f)) s)
+    go (inr l) = λ s s' a. match-beyond (hidden-left bottom l) (guarded _ 30 i (commit (r ∷ []) (recorded f)) s)
 
 -- ---- variables of its own
 

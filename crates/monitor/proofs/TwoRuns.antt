@@ -1,6 +1,6 @@
 -- Demand 3 on the rules: two runs of one script from states that agree inside R, a set that holds the group's reach. Assumes nothing.
 use mathlib.Core.Path.{_≡_, sym, ap, _∙_}
-use mathlib.Core.List.{[], append-nil}
+use mathlib.Core.List.{List, [], append-nil}
 use mathlib.Core.Logic.{_⊎_, inl, inr}
 use mathlib.Core.Bool.{true, false≢true}
 use Prim.Native.Nat.{ℕ}
@@ -8,7 +8,7 @@ use Rattle.places.specs.Sets.{Within}
 use Rattle.book.specs.Records.{Book}
 use Rattle.book.specs.Start.{public-set}
 use Rattle.monitor.specs.Labelled.{Label, Lab}
-use Rattle.monitor.specs.Run.{Cell, State, Out}
+use Rattle.monitor.specs.Run.{Cell, State, Rec, Out}
 use Rattle.monitor.specs.Rules.{run}
 use Rattle.monitor.specs.TwoBooks.{Group, InsideEither}
 use Rattle.monitor.proofs.Views.{records, end, is-done, seen-of, gift, gifts, Begun}
@@ -19,6 +19,8 @@ use Rattle.monitor.proofs.Flow.{view, pair-run}
 -- what two runs show a group
 pub record Agree (g : Group) (R : Label) (o o' : Out (Unit {0})) : Type 0 where
   pub begins : Begun (seen-of g (records o)) (seen-of g (records o')) ⊎ Begun (seen-of g (records o')) (seen-of g (records o))
+  pub first-whole : is-done o ≡ true → Begun (seen-of g (records o')) (seen-of g (records o))
+  pub second-whole : is-done o' ≡ true → Begun (seen-of g (records o)) (seen-of g (records o'))
   pub traces : is-done o ≡ true → is-done o' ≡ true → seen-of g (records o) ≡ seen-of g (records o')
   pub cells : is-done o ≡ true → is-done o' ≡ true → (q : ℕ) → InsideEither R (end o .cells q) (end o' .cells q) → end o .cells q ≡ end o' .cells q
 
@@ -35,13 +37,33 @@ equal-cells : {R : Label} {x y : Lab Cell} → Same R x y → InsideEither R x y
 equal-cells e (inl l) = same-inside e l
 equal-cells e (inr l) = sym (same-inside (same-sym e) l)
 
+begun-same : {x y : List Rec} → x ≡ y → Begun x y
+begun-same {x} e = record { rest = []; is = append-nil x ∙ e }
+
 agree : (b : Book) (g : Group) (R : Label) {o o' : Out (Unit {0})}
     → Within (gifts (gift b g) (records o)) R → Match (view b g R) Both o o' → Agree g R o o'
 unfolding records end is-done
-agree b g R l (both {t = t} e r q) =
-    record { begins = inl (record { rest = []; is = append-nil (seen-of g t) ∙ e }); traces = λ _ _. e; cells = λ _ _ q. equal-cells (r .cells q) }
-agree b g R l (first-stops f) = record { begins = inl f; traces = λ d _. absurd (false≢true d); cells = λ d _. absurd (false≢true d) }
-agree b g R l (second-stops f) = record { begins = inr f; traces = λ _ d. absurd (false≢true d); cells = λ _ d. absurd (false≢true d) }
+agree b g R l (both e r q) = record {
+  begins = inl (begun-same e);
+  first-whole = λ _. begun-same (sym e);
+  second-whole = λ _. begun-same e;
+  traces = λ _ _. e;
+  cells = λ _ _ q. equal-cells (r .cells q);
+}
+agree b g R l (first-stops f) = record {
+  begins = inl f;
+  first-whole = λ d. absurd (false≢true d);
+  second-whole = λ _. f;
+  traces = λ d _. absurd (false≢true d);
+  cells = λ d _. absurd (false≢true d);
+}
+agree b g R l (second-stops f) = record {
+  begins = inr f;
+  first-whole = λ _. f;
+  second-whole = λ d. absurd (false≢true d);
+  traces = λ _ d. absurd (false≢true d);
+  cells = λ _ d. absurd (false≢true d);
+}
 agree b g R l (beyond h) = absurd (h l)
 
 pub two-runs : (b : Book) (g : Group) (R : Label) (s s' : State) (fuel fuel' : ℕ)

@@ -19,9 +19,13 @@ FuelEnough = (b : Book) (labels : Bool) (fuel fuel' : ℕ) (s : State) → s .le
 abbrev pub NoLabelsSame : Type 0
 NoLabelsSame = (file : List ℕ) (budget : ℕ) (m : Memory) → finished (call true file budget m .answer) ≡ true → call false file budget m ≡ call true file budget m
 
--- what the group learns from two runs: nothing but where one stopped, and where both finish, nothing
+-- What the group learns from two runs: nothing but where one stopped, and where both finish, nothing.
+-- Of the two traces one begins the other; a run that finishes shows the group all that the other shows; and where both finish, the
+-- traces are the same, and so are the cells inside the reach.
 pub record LearnsNothing (g : Group) (reach : List ℕ) (first second : Result) : Type 0 where
   pub begins : Begins (group-trace g first) (group-trace g second) ⊎ Begins (group-trace g second) (group-trace g first)
+  pub first-whole : finished (first .answer) ≡ true → Begins (group-trace g second) (group-trace g first)
+  pub second-whole : finished (second .answer) ≡ true → Begins (group-trace g first) (group-trace g second)
   pub traces : finished (first .answer) ≡ true → finished (second .answer) ≡ true → group-trace g first ≡ group-trace g second
   pub cells : finished (first .answer) ≡ true → finished (second .answer) ≡ true → SameInside reach (cells-in (first .memory)) (cells-in (second .memory))
 

@@ -1,4 +1,5 @@
--- Labelled values: a value with the set of places that it may tell of (the paper's label). Labels are joined here and nowhere else.
+-- Labelled values: a value with the set of places that it may tell of (the paper's label), and how the labels of values are joined.
+-- A context's label, context plus key label or value label, and a raised variable's label are joined by `union` in Rules.antt.
 use mathlib.Core.List.{List}
 use Prim.Native.Nat.{ℕ}
 use Rattle.places.specs.Sets.{empty, union}

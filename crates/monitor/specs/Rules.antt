@@ -42,21 +42,27 @@ pub record Key : Type 0 where
 unfoldable pub key : Lab ℤ → Lab ℤ → Lab Key
 key x y = lift2 (λ o l. record { owner = o; line = l }) x y
 
--- the bounds of a query: from one key to another
+-- the bounds of a query's owners or lines, as they are worked out
+pub record Bounds : Type 0 where
+  pub first : ℤ
+  pub last : ℤ
+
+unfoldable pub from-to : Lab ℤ → Lab ℤ → Lab Bounds
+from-to x y = lift2 (λ f l. record { first = f; last = l }) x y
+
 pub record Box : Type 0 where
-  pub from : Key
-  pub to : Key
+  pub owners : Bounds
+  pub lines : Bounds
 
 -- owners a to b, lines c to d
-unfoldable pub bounds : Lab ℤ → Lab ℤ → Lab ℤ → Lab ℤ → Lab Box
-bounds a b c d =
-    lift2 (λ (o l : Key). record { from = record { owner = o .owner; line = l .owner }; to = record { owner = o .line; line = l .line } }) (key a b) (key c d)
+unfoldable pub box-of : Lab ℤ → Lab ℤ → Lab ℤ → Lab ℤ → Lab Box
+box-of a b c d = lift2 (λ o l. record { owners = o; lines = l }) (from-to a b) (from-to c d)
 
 -- bounds may lie outside 0 to 7; first above last matches none
 unfoldable pub in-box : Box → ℕ → Bool
 in-box x q =
-    (leZ (x .from .owner) (pos (owner-of q)) && leZ (pos (owner-of q)) (x .to .owner))
-    && (leZ (x .from .line) (pos (line-of q)) && leZ (pos (line-of q)) (x .to .line))
+    (leZ (x .owners .first) (pos (owner-of q)) && leZ (pos (owner-of q)) (x .owners .last))
+    && (leZ (x .lines .first) (pos (line-of q)) && leZ (pos (line-of q)) (x .lines .last))
 
 -- the cells that are picked among the n places from `base` on, present or absent, with the labels of all of them
 unfoldable pub gather : (ℕ → Lab Cell) → (ℕ → Bool) → ℕ → ℕ → Lab (List Cell)
@@ -135,7 +141,7 @@ expr ev i (query kind p a b c d) = do
   x ← ev b
   y ← ev c
   z ← ev d
-  cells ← look (seen p (bounds w x y z))
+  cells ← look (seen p (box-of w x y z))
   ranged i (lift (aggregate kind) cells)
 
 -- ---- commands
@@ -164,6 +170,17 @@ key-place p k = place p (nat (k .owner)) (nat (k .line))
 
 unfoldable pub in-table : Key → Bool
 in-table k = (leZ (pos 0) (k .owner) && leZ (k .owner) (pos 7)) && (leZ (pos 0) (k .line) && leZ (k .line) (pos 7))
+
+-- put and clear up to their triggers: the tests for the cell of table p with key k, and its write; c is context plus key label
+unfoldable pub posting : Bool → ℕ → Label → ℕ → ℕ → Key → Lab Cell → M (Unit {0})
+posting labels i c user p k z = do
+  -- 23: key outside 0 to 7
+  need (plainly (in-table k)) 23 i
+  -- 24: a write right for the place
+  r ← look (λ s. s .rights)
+  need (plainly (has (r .write user) (key-place p k))) 24 i
+  -- 26, and the new label: context, key label and the amount's label
+  set-cell labels i c (key-place p k) (under c z)
 
 -- a trigger's variables: owner and line, with the context as label, the amount with its own label added, and 0 for the others
 unfoldable pub trigger-vars : Label → Key → Lab Cell → ℕ → Lab ℤ
@@ -215,13 +232,7 @@ module _ (book : Book) where
     -- put (event 1) and clear (event 2) of the cell of table p with key k, when key and new cell are known
     unfoldable pub write-cell : Env → ℕ → ℕ → ℕ → Lab Key → Lab Cell → M (Unit {0})
     write-cell e i event p k z = do
-      -- 23: key outside 0 to 7
-      need (plainly (in-table (k .val))) 23 i
-      -- 24: a write right for the place
-      r ← look (λ s. s .rights)
-      need (plainly (has (r .write (e .user)) (key-place p (k .val)))) 24 i
-      -- 26, and the new label: context, key label and the amount's label
-      set-cell labels i (union (e .ctx) (k .lab)) (key-place p (k .val)) (under (union (e .ctx) (k .lab)) z)
+      posting labels i (union (e .ctx) (k .lab)) (e .user) p (k .val) z
       -- then the triggers, in context plus key label, even if clear met an absent cell
       fire (within-label e k) event (key-place p (k .val)) (k .val) z
 

@@ -1,5 +1,6 @@
 -- Runs: from a state to its end or to a stop, each with the trace records written meanwhile.
--- `guard` is the only source of stops, `tell` the only writer of records, `pay` the only reader of the budget.
+-- `guard` is the only source of stops but for the end of fuel in Rules.antt, which is a 21 too; `tell` is the only writer of records,
+-- `pay` the only reader of the budget.
 use mathlib.Core.List.{List, [], _∷_, _++_}
 use mathlib.Core.Bool.{Bool, true, false, not, _||_, cond}
 use Prim.Native.Nat.{ℕ, _-_}
@@ -121,8 +122,9 @@ with-vars v s = record { cells = s .cells; vars = v; rights = s .rights; left = 
 abbrev pub with-cells : (ℕ → Lab Cell) → State → State
 with-cells c s = record { cells = c; vars = s .vars; rights = s .rights; left = s .left; room = s .room }
 
-abbrev pub with-rights : (Rights → Rights) → State → State
-with-rights f s = record { cells = s .cells; vars = s .vars; rights = f (s .rights); left = s .left; room = s .room - 1 }
+-- after a trace record: its room is used up, and the rights change by f
+abbrev pub recorded : (Rights → Rights) → State → State
+recorded f s = record { cells = s .cells; vars = s .vars; rights = f (s .rights); left = s .left; room = s .room - 1 }
 
 -- 21: the cost c would pass the budget; tested on entry to node i, and then not added
 unfoldable pub pay : ℕ → ℕ → M (Unit {0})
@@ -138,7 +140,7 @@ set-cell labels i c q x = guard (λ s. inside labels c (s .cells q .lab)) 26 i (
 
 -- 30: the trace has room for a record; the record r, and what it does to the rights
 unfoldable pub tell : ℕ → Rec → (Rights → Rights) → M (Unit {0})
-tell i r f = guard (λ s. plainly (leb 1 (s .room))) 30 i (commit (r ∷ []) (with-rights f))
+tell i r f = guard (λ s. plainly (leb 1 (s .room))) 30 i (commit (r ∷ []) (recorded f))
 
 -- ---- variables
 

@@ -9,7 +9,7 @@ use lib.ListN.{take, drop}
 use Rattle.places.specs.Sets.{union, Within}
 use Rattle.book.specs.Bytes.{byte}
 use Rattle.book.specs.Kinds.{between}
-use Rattle.book.specs.Records.{Book}
+use Rattle.book.specs.Records.{Book, SameScripts}
 use Rattle.book.specs.Layout.{decode}
 use Rattle.book.specs.Start.{public-set, read-sets}
 use Rattle.monitor.specs.Labelled.{Label, bottom, Lab}
@@ -94,11 +94,7 @@ pub record SameInside (reach : Label) (x y : ℕ → Lab Cell) : Type 0 where
 
 -- two books differ only in cells outside the reach
 pub record DifferOutside (reach : Label) (file file' : List ℕ) : Type 0 where
-  pub regions : decode file .regions ≡ decode file' .regions
-  pub rights : decode file .rights ≡ decode file' .rights
-  pub nodes : decode file .nodes ≡ decode file' .nodes
-  pub programs : decode file .programs ≡ decode file' .programs
-  pub triggers : decode file .triggers ≡ decode file' .triggers
+  pub scripts : SameScripts (decode file) (decode file')
   pub cells : SameInside reach (start-cells (decode file)) (start-cells (decode file'))
 
 -- the cells that a call leaves in lent memory

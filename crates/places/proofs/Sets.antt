@@ -8,7 +8,7 @@ use Prim.Native.Nat.{ℕ, zero, suc, _+_, _-_, _*_, _/_, _%_, _^_, _≤_, _<_, m
 use native.Mathlib.Nat.{le-refl, le-trans, le-antisymm, le-max-left, le-max-right, max-le, lt-of-lt-of-le, zero-max, max-zero, suc-max-suc, le-of-suc-le-suc, lt-of-not-le}
 use native.Mathlib.Omega.{arith}
 use lib.Pow.{pow-mono, pow-pos}
-use lib.Bits.{bitOr, or-zero-r, or-lt, bitAnd, and-lt, xor-lt}
+use lib.Bits.{bitOr, or-zero-r, or-lt}
 use lib.Dec.{eqb, ltb}
 use lib.ListN.{length, getD, List·getD-eq-default}
 use lib.Seq.{ext-getD}
@@ -249,15 +249,8 @@ pub length-single : (n p : ℕ) → length (single n p) ≡ n
 unfolding single
 length-single n p = length-set-of n (λ q. eqb q p)
 
-pub words-empty : (n : ℕ) → Words (empty n)
-words-empty n = record { fits = λ w. rw (empty-word n w) (pow-pos 64) }
-
 pub words-union : {a b : List ℕ} → Words a → Words b → Words (union a b)
 words-union {a} {b} h l = record { fits = λ w. rw union-word (or-lt 64 (getD a w 0) (getD b w 0) (h .fits w) (l .fits w)) }
-
-pub words-difference : {a b : List ℕ} → Words a → Words b → Words (difference a b)
-words-difference {a} {b} h l =
-    record { fits = λ w. rw difference-word (xor-lt 64 (getD a w 0) (bitAnd (getD a w 0) (getD b w 0)) (h .fits w) (and-lt 64 (getD a w 0) (getD b w 0) (h .fits w) (l .fits w))) }
 
 pub words-set-of : (n : ℕ) (f : ℕ → Bool) → Words (set-of n f)
 unfolding set-of

@@ -10,11 +10,11 @@ use Rattle.places.specs.Sets.{has, union, difference, within}
 use Rattle.labels.specs.Labels.{label-at}
 use Rattle.monitor.specs.Labelled.{Label, bottom, Lab, under}
 use Rattle.monitor.specs.Run.{Cell, Rights, State, done, M, _>>=_, _>>_, look, plainly, inside, need, update, with-cells, set-cell}
-use Rattle.monitor.specs.Rules.{Key, key-place, in-table}
+use Rattle.monitor.specs.Rules.{Key, key-place, in-table, posting}
 use Rattle.monitor.specs.Call.{cells-of, rows}
 use Rattle.machine.specs.Store.{cell}
 use Rattle.machine.specs.Promises.{ended}
-use Rattle.machine.specs.Writes.{key-of, posting, posted-end, Posts}
+use Rattle.machine.specs.Writes.{key-of, posted-end, Posts}
 use Rattle.machine.specs.declared.Posted.{Posted}
 use Rattle.machine.specs.declared.Posted.the-variants as posted
 use Rattle.machine.proofs.Runs.{next-look, guard-true, guard-false, need-holds, need-fails}
@@ -65,7 +65,7 @@ module _ (n : ℕ) (ctx : Label) (user table : ℕ) (k : Key) (z : Lab Cell) (wr
 
   module _ (e : in-table k ≡ true) where
     -- past test 23
-    keyed : (s : State) → posting n ctx user table k z s ≡ (may (s .rights) >> sets) s
+    keyed : (s : State) → posting true n ctx user table k z s ≡ (may (s .rights) >> sets) s
     unfolding posting
     keyed s = need-holds (plainly (in-table k)) 23 n (λ a. look (λ s. s .rights) >>= λ r. may r >> sets) s e ∙ next-look (λ s. s .rights) (λ r. may r >> sets) s
 
@@ -82,7 +82,7 @@ module _ (n : ℕ) (ctx : Label) (user table : ℕ) (k : Key) (z : Lab Cell) (wr
 
     module _ (h : has (rows write user) place ≡ true) where
       -- past test 24
-      allowed : (vars : ℕ → Lab ℤ) (read : ℕ → Label) (left room : ℕ) → posting n ctx user table k z (state vars read left room) ≡ sets (state vars read left room)
+      allowed : (vars : ℕ → Lab ℤ) (read : ℕ → Label) (left room : ℕ) → posting true n ctx user table k z (state vars read left room) ≡ sets (state vars read left room)
       allowed vars read left room =
           let s = state vars read left room in
           keyed s ∙ need-holds (plainly (has (rows write user) place)) 24 n (λ a. sets) s h

@@ -5,10 +5,10 @@ ghost use mathlib.Core.Bool.{cond, true};
 ghost use Prim.Native.Nat.{_<_};
 ghost use lib.Dec.{eqb};
 ghost use lib.Bits.{bitOr, bitAnd, bitXor};
+ghost use Rattle.book.specs.Start.{Lengths};
 ghost use Rattle.monitor.specs.Run.{update};
 ghost use Rattle.monitor.specs.Rules.{key-place, in-table};
 ghost use Rattle.monitor.specs.Call.{cells-of};
-ghost use Rattle.machine.specs.Ready.{Lengths};
 ghost use Rattle.machine.specs.Store.{cell};
 ghost use Rattle.machine.specs.Writes.{key-of, Posts};
 

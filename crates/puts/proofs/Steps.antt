@@ -15,12 +15,12 @@ use Rattle.book.specs.declared.Verdict.the-variants.{Accepted}
 use Rattle.monitor.specs.Syntax.{put, clear, cmd-of}
 use Rattle.monitor.specs.Labelled.{Label, Lab, lit, lift, lift2}
 use Rattle.monitor.specs.Run.{Cell, M, next, _>>=_, _>>_}
-use Rattle.monitor.specs.Rules.{Key, Env, key, key-place, within-label, fire, write-cell, command, exec}
+use Rattle.monitor.specs.Rules.{Key, key, key-place, posting, within-label, trigger-run, fire, write-cell, command, exec}
 use Rattle.monitor.specs.Call.{cells-of, rows}
 use Rattle.machine.specs.Ready.{script-of}
 use Rattle.machine.specs.Store.{Store, store, room-in, cell}
 use Rattle.machine.specs.Promises.{Gives, Evaluates, ran, stop-of, Does, DoesAside, env, Commands}
-use Rattle.machine.specs.Writes.{key-of, posting, posted-end, Posts, Fires}
+use Rattle.machine.specs.Writes.{key-of, posted-end, Posts, Fires}
 use Rattle.machine.specs.declared.Value.{Value}
 use Rattle.machine.specs.declared.Value.the-variants as value
 use Rattle.machine.specs.declared.Valued.{Valued}
@@ -33,7 +33,6 @@ use Rattle.puts.specs.Writing.{NewAmount, stop-at, unposted, Writes}
 use Rattle.machine.proofs.Nodes.{script-node, command-is, Child, put-p, put-a, put-b, clear-p, clear-a, clear-b}
 use Rattle.machine.proofs.Traces.{with-none}
 use Rattle.machine.proofs.Runs.{cells, done-not-stopped, after-none, does-as, then-stops, then-goes, value-stops, value-goes}
-use Rattle.machine.proofs.WriteParts.{write-parts, fires-alike}
 
 -- a put writes event 1, a clear event 2
 data Event : ℕ → Type 0 where
@@ -116,14 +115,10 @@ module _ (file : List ℕ) (ctx : Label) (user above n event table : ℕ) (key-l
   written fuel = write-cell (script-of file) true (exec (script-of file) true fuel) (env ctx user above) n event table (labelled k key-label) z
 
   module _ {inner : Label} (ei : inner ≡ union ctx key-label) where
-    posts-then : (fuel : ℕ) → written fuel ≡ (posting n inner user table k z >> Fires file inner above event (key-place table k) k z fuel)
-    unfolding written within-label
-    posts-then fuel =
-        let runs : Env → ℕ → M (Unit {0}) = exec (script-of file) true fuel in
-        let place : ℕ = key-place table k in
-        (λ i s. write-parts (script-of file) runs (env ctx user above) n event table (labelled k key-label) z s i)
-        ∙ ap (λ (c : Label). posting n c user table k z >> fire (script-of file) true runs (env c user above) event place k z) (sym ei)
-        ∙ ap (λ (m : M (Unit {0})). posting n inner user table k z >> m) (fires-alike (script-of file) runs inner user 0 above event place k z)
+    -- the user who writes bears on no trigger
+    posts-then : (fuel : ℕ) → written fuel ≡ (posting true n inner user table k z >> Fires file inner above event (key-place table k) k z fuel)
+    unfolding written write-cell within-label fire trigger-run
+    posts-then fuel = ap (λ (c : Label). posting true n c user table k z >> Fires file c above event (key-place table k) k z fuel) (sym ei)
 
     module _ (x : Store) (amounts₁ : List ℤ) (presence₁ labels₁ : List ℕ) {r : Posted}
         (p : Posts n inner user table k z (x .write) (cells x) r (cells-of amounts₁ presence₁ labels₁)) where
@@ -131,7 +126,7 @@ module _ (file : List ℕ) (ctx : Label) (user above n event table : ℕ) (key-l
       x' = store amounts₁ presence₁ labels₁ (x .read) (x .write) (x .trace)
 
       posted-does : (vars : ℕ → Lab ℤ) (left used : ℕ) → used ≤ length (x .trace)
-          → Does (λ fuel. posting n inner user table k z) vars x left used (ran (posted-end r) left used) vars x'
+          → Does (λ fuel. posting true n inner user table k z) vars x left used (ran (posted-end r) left used) vars x'
       posted-does vars left used u =
           let e = p .ends vars (rows (x .read)) left (room-in (x .trace) used) in
           record {

@@ -9,7 +9,7 @@ use Rattle.queries.specs.declared.Found.{Found}
 
 -- owners first to last, lines low to high
 abbrev pub box : ℤ → ℤ → ℤ → ℤ → Box
-box first last low high = record { from = record { owner = first; line = low }; to = record { owner = last; line = high } }
+box first last low high = record { owners = record { first = first; last = last }; lines = record { first = low; last = high } }
 
 -- the value of a query of this kind over the cells of a table that lie in the box, with the labels of all of them
 unfoldable pub found-in : ℕ → (ℕ → Lab Cell) → Box → ℕ → Found

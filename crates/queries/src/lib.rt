@@ -2,8 +2,8 @@
 ghost use mathlib.Core.Path.{_≡_};
 ghost use Prim.Native.Nat.{_^_, _<_};
 ghost use lib.Signed.{mag};
+ghost use Rattle.book.specs.Start.{Lengths};
 ghost use Rattle.monitor.specs.Call.{cells-of};
-ghost use Rattle.machine.specs.Ready.{Lengths};
 ghost use Rattle.queries.specs.Found.{box, found-in};
 ghost use Rattle.queries.specs.Tallies.{with-amount, value-of, first-from, first-above};
 

@@ -8,7 +8,7 @@ use lib.IntN.{ℤ, pos}
 use lib.ListN.{length, drop}
 use Rattle.places.specs.Sets.{Words}
 use Rattle.book.specs.Layout.{decode}
-use Rattle.book.specs.Start.{read-sets, write-sets}
+use Rattle.book.specs.Start.{Lengths, read-sets, write-sets}
 use Rattle.book.specs.declared.Verdict.the-variants.{Accepted}
 use Rattle.monitor.specs.Labelled.{Label, lit}
 use Rattle.monitor.specs.Run.{State, Rec, sixteen}
@@ -16,7 +16,6 @@ use Rattle.monitor.specs.Rules.{run}
 use Rattle.monitor.specs.Call.{Memory, trace-bytes, start-cells, start-rights, start-state, run-book, memory-after, result-of, answered}
 use Rattle.monitor.proofs.Memory.{Sizes, amounts-kept, presence-kept, labels-kept}
 use Rattle.monitor.proofs.Start.{start-sizes}
-use Rattle.machine.specs.Ready.{Lengths}
 use Rattle.machine.specs.Store.{Store, store, state, with-records}
 use Rattle.machine.specs.Promises.{ended, DoesAside}
 use Rattle.machine.specs.declared.Outcome.{Outcome}

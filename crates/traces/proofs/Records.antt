@@ -9,21 +9,21 @@ use lib.IntN.{ℤ}
 use lib.ListN.{length, take, drop}
 use Rattle.book.specs.Bytes.{four, bits32}
 use Rattle.monitor.specs.Labelled.{bottom, Lab}
-use Rattle.monitor.specs.Run.{Rights, Rec, said, changed, done, plainly, commit, with-rights, tell}
+use Rattle.monitor.specs.Run.{Rights, Rec, said, changed, done, plainly, commit, recorded, tell}
 use Rattle.monitor.specs.Call.{record-bytes}
 use Rattle.machine.specs.Store.{Store, store, rights-of, state, room-in, with-records}
 use Rattle.machine.specs.Promises.{ran, ended, Does}
 use Rattle.machine.specs.declared.Outcome.the-variants.{Done, Stopped}
 use Rattle.machine.specs.declared.Ran.{Ran}
 use Rattle.machine.proofs.Runs.{guard-true, guard-false, quietly}
-use Rattle.machine.proofs.Traces.{recorded, no-room, some-room, room-after}
+use Rattle.machine.proofs.Traces.{record-added, no-room, some-room, room-after}
 
 module _ (n : ℕ) (r : Rec) (f : Rights → Rights) {vars : ℕ → Lab ℤ} {x : Store} {left used : ℕ} where
   pub tell-full : {q : Ran} → used ≤ length (x .trace) → length (x .trace) < used + 8 → q ≡ ran (Stopped 30 n) left used
       → Does (λ fuel. tell n r f) vars x left used q vars x
   unfolding tell ended
   tell-full u h e = quietly (Stopped 30 n) bottom left e (le-refl left) u
-      (λ fuel _. guard-false (λ s. plainly (leb 1 (s .room))) 30 n (commit (r ∷ []) (with-rights f)) (state vars x left used) (no-room (x .trace) used h))
+      (λ fuel _. guard-false (λ s. plainly (leb 1 (s .room))) 30 n (commit (r ∷ []) (recorded f)) (state vars x left used) (no-room (x .trace) used h))
 
   pub tell-writes : {q : Ran} {read write : List (List ℕ)} {trace : List ℕ} → used + 8 ≤ length (x .trace) → trace ≡ with-records (x .trace) used (r ∷ [])
       → f (rights-of (x .read) (x .write)) ≡ rights-of read write → q ≡ ran Done left (used + 8)
@@ -37,7 +37,7 @@ module _ (n : ℕ) (r : Rec) (f : Rights → Rights) {vars : ℕ → Lab ℤ} {x
       (record {
         records = r ∷ [];
         obstacle = bottom;
-        is = λ fuel _. guard-true (λ s. plainly (leb 1 (s .room))) 30 n (commit (r ∷ []) (with-rights f)) (state vars x left used) (some-room (x .trace) used h)
+        is = λ fuel _. guard-true (λ s. plainly (leb 1 (s .room))) 30 n (commit (r ∷ []) (recorded f)) (state vars x left used) (some-room (x .trace) used h)
             ∙ (λ i. done (r ∷ []) tt (record { cells = state vars x left used .cells; vars = vars; rights = ef i; left = left; room = room i }));
         trace-is = et;
         used-is = omega arith;
@@ -58,9 +58,9 @@ module _ (trace : List ℕ) (used : ℕ) (h : used + 8 ≤ length trace) where
   pub said-recorded : {part : List ℕ} {p p' bits : ℕ} (z : ℤ) → part ≡ 1 ∷ p' ∷ 0 ∷ 0 ∷ four bits ++ rest → p' ≡ p → bits ≡ bits32 z
       → returned part ≡ with-records trace used (said p z ∷ [])
   unfolding record-bytes
-  said-recorded {p = p} z e ep eb = recorded trace used (said p z) h (e ∙ (λ i. 1 ∷ ep i ∷ 0 ∷ 0 ∷ four (eb i) ++ rest))
+  said-recorded {p = p} z e ep eb = record-added trace used (said p z) h (e ∙ (λ i. 1 ∷ ep i ∷ 0 ∷ 0 ∷ four (eb i) ++ rest))
 
   pub changed-recorded : {part : List ℕ} {k k' p p' a a' : ℕ} → part ≡ k' ∷ p' ∷ a' ∷ 0 ∷ four 0 ++ rest → k' ≡ k → p' ≡ p → a' ≡ a
       → returned part ≡ with-records trace used (changed k p a ∷ [])
   unfolding record-bytes
-  changed-recorded {k = k} {p = p} {a = a} e ek ep ea = recorded trace used (changed k p a) h (e ∙ (λ i. ek i ∷ ep i ∷ ea i ∷ 0 ∷ four 0 ++ rest))
+  changed-recorded {k = k} {p = p} {a = a} e ek ep ea = record-added trace used (changed k p a) h (e ∙ (λ i. ek i ∷ ep i ∷ ea i ∷ 0 ∷ four 0 ++ rest))

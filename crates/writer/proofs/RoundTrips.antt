@@ -17,7 +17,7 @@ use Rattle.book.specs.Bytes.{Bytes}
 use Rattle.book.specs.Records.{CellRecord, Book}
 use Rattle.book.specs.Layout.{decode}
 use Rattle.book.specs.Refusals.{verdict}
-use Rattle.book.specs.Start.{amount-at, or-zero, is-there, start-amounts, start-presence, start-labels}
+use Rattle.book.specs.Start.{Lengths, amount-at, or-zero, is-there, start-amounts, start-presence, start-labels}
 use Rattle.book.specs.Encode.{encode, cells-from, with-cells}
 use Rattle.book.specs.declared.Verdict.{Verdict}
 use Rattle.book.specs.declared.Verdict.the-variants.{Accepted, Refused}
@@ -28,7 +28,6 @@ use Rattle.book.proofs.Accepted.{accepted}
 use Rattle.writer.specs.declared.Written.the-variants.{Wrote}
 use Rattle.loader.specs.Load.{Loaded, load-call}
 use Rattle.writer.specs.Write.{write-verdict, rewritten, write-answer, WriteCall, write-call}
-use Rattle.loader.specs.Load.{Lent}
 use Rattle.writer.specs.Claims.{Amounts, SameBytes, present-amounts, Rewritten, ReadsBack}
 use Rattle.writer.proofs.Cells.{good-rising, cells-amount, Holds, cells-are}
 use Rattle.writer.proofs.Files.{encode-decode, decode-encode}
@@ -39,7 +38,7 @@ use Rattle.writer.proofs.Calls.{write-accepted, written, write-by}
 use Rattle.writer.proofs.Rewritten.{sound, new-accepted}
 
 -- what loading an accepted file leaves
-loads : (file : List ℕ) → verdict file ≡ Accepted → (amounts : List ℤ) (presence labels : List ℕ) → Lent amounts presence labels
+loads : (file : List ℕ) → verdict file ≡ Accepted → (amounts : List ℤ) (presence labels : List ℕ) → Lengths amounts presence labels
     → load-call file amounts presence labels
     ≡ record { answer = Accepted; amounts = start-amounts (decode file); presence = start-presence (decode file); labels = start-labels }
 loads file v amounts presence labels l = sym (load-accepted file amounts presence labels (lent l) (verdict file) refl _ _ _ v refl refl refl)
@@ -137,11 +136,13 @@ module _ (file : List ℕ) (b : Bytes file) (v : verdict file ≡ Accepted) (amo
   unfolding with-cells
   restored = record {
     accepted = passes;
-    same-regions = ap (λ (x : Book). x .regions) decoded;
-    same-rights = ap (λ (x : Book). x .rights) decoded;
-    same-nodes = ap (λ (x : Book). x .nodes) decoded;
-    same-programs = ap (λ (x : Book). x .programs) decoded;
-    same-triggers = ap (λ (x : Book). x .triggers) decoded;
+    scripts = record {
+      regions = ap (λ (x : Book). x .regions) decoded;
+      rights = ap (λ (x : Book). x .rights) decoded;
+      nodes = ap (λ (x : Book). x .nodes) decoded;
+      programs = ap (λ (x : Book). x .programs) decoded;
+      triggers = ap (λ (x : Book). x .triggers) decoded;
+    };
     loads = λ amounts′ presence′ labels′ l.
         sym (load-accepted new amounts′ presence′ labels′ (lent l) (verdict new) refl _ _ _ passes amounts-back presence-back refl);
   }

@@ -9,11 +9,12 @@ use mir.Syntax.{w32}
 use mir.Val.{SFits}
 use Rattle.places.specs.Sets.{Words, has}
 use Rattle.book.specs.Bytes.{Bytes}
+use Rattle.book.specs.Records.{SameScripts}
 use Rattle.book.specs.Layout.{decode}
 use Rattle.book.specs.Refusals.{verdict}
-use Rattle.book.specs.Start.{tabulate, start-labels}
+use Rattle.book.specs.Start.{Lengths, tabulate, start-labels}
 use Rattle.book.specs.declared.Verdict.the-variants.{Accepted}
-use Rattle.loader.specs.Load.{Loaded, load-call, Lent}
+use Rattle.loader.specs.Load.{Loaded, load-call}
 use Rattle.writer.specs.Write.{write-call}
 use Rattle.writer.specs.declared.Written.the-variants.{Wrote}
 
@@ -25,7 +26,7 @@ pub record Amounts (amounts : List ℤ) : Type 0 where
 unfoldable pub SameBytes : Type 0
 SameBytes =
     (file : List ℕ) → Bytes file → verdict file ≡ Accepted
-    → (amounts : List ℤ) (presence labels : List ℕ) → Lent amounts presence labels
+    → (amounts : List ℤ) (presence labels : List ℕ) → Lengths amounts presence labels
     → (out : List ℕ) → 60000 ≤ length out
     → let r : Loaded = load-call file amounts presence labels in
     write-call file (r .amounts) (r .presence) out ≡ record { answer = Wrote (length file); out = file ++ drop (length file) out }
@@ -37,12 +38,8 @@ present-amounts amounts presence = tabulate (λ p. cond (has presence p) (getD a
 -- `new` is a book like `file` in all but its cells, which are those of lent memory
 pub record Rewritten (file : List ℕ) (amounts : List ℤ) (presence new : List ℕ) : Type 0 where
   pub accepted : verdict new ≡ Accepted
-  pub same-regions : decode new .regions ≡ decode file .regions
-  pub same-rights : decode new .rights ≡ decode file .rights
-  pub same-nodes : decode new .nodes ≡ decode file .nodes
-  pub same-programs : decode new .programs ≡ decode file .programs
-  pub same-triggers : decode new .triggers ≡ decode file .triggers
-  pub loads : (amounts′ : List ℤ) (presence′ labels′ : List ℕ) → Lent amounts′ presence′ labels′
+  pub scripts : SameScripts (decode new) (decode file)
+  pub loads : (amounts′ : List ℤ) (presence′ labels′ : List ℕ) → Lengths amounts′ presence′ labels′
       → load-call new amounts′ presence′ labels′
       ≡ record { answer = Accepted; amounts = present-amounts amounts presence; presence = presence; labels = start-labels }
 

@@ -5,9 +5,9 @@ use Prim.Native.Nat.{ℕ}
 use lib.ListN.{length}
 use borrow.Author.Tests.{eq-eqb, ne-eqb}
 use Rattle.book.specs.Refusals.{verdict}
+use Rattle.book.specs.Start.{Lengths}
 use Rattle.book.specs.declared.Verdict.the-variants.{Accepted}
 use Rattle.book.proofs.Chains.{pass, fail}
-use Rattle.loader.specs.Load.{Lent}
 use Rattle.loader.proofs.Calls.{lent, load-lent, load-refused, load-accepted}
 use borrow.Author.Needs.{needs}
 use native.Mathlib.Omega.{arith}
@@ -17,7 +17,7 @@ use Rattle.loader.proofs.load.Tie as tie
 -- the lent memory has the right lengths
 sizes : (c : tie.Else3)
     → let s = c .before .before .before .before .before .before in
-    Lent (s .args .amounts .now) (s .args .presence .now) (s .args .labels .now)
+    Lengths (s .args .amounts .now) (s .args .presence .now) (s .args .labels .now)
 sizes c = record {
   amounts-are = omega (arith, c .before .before .if1 .left);
   presence-is = omega (arith, c .before .if2 .left);
