@@ -1,4 +1,4 @@
--- What running gives C, by the runner's answer: its numbers fit 32 bits. Assumes nothing.
+-- What running gives C: the numbers of the runner's answer, which fit 32 bits. Assumes nothing.
 use mathlib.Core.Path.{_≡_, refl, ap}
 use mathlib.Core.List.{List}
 use mathlib.Core.Bool.{true}
@@ -13,30 +13,29 @@ use Rattle.book.specs.declared.Verdict.{Verdict}
 use Rattle.book.proofs.Chains.{both}
 use Rattle.book.proofs.Verdicts.{accepts-both, need-accepts}
 use Rattle.monitor.specs.Run.{Out}
-use Rattle.monitor.specs.Call.{Memory, values, script, start-state, run-book, call-verdict, result-of, answered, call}
+use Rattle.monitor.specs.Call.{Memory, Result, values, script, start-state, run-book, call-verdict, result-of, answered, call}
 use Rattle.monitor.specs.declared.Answer.{Answer}
-use Rattle.monitor.specs.declared.Answer.the-variants.{Refused, Stopped, Finished}
+use Rattle.monitor.specs.declared.Values.{Values}
 use Rattle.capi.specs.Calls.{loaded, ran, run-numbers, run-call}
-use Rattle.capi.specs.declared.Ran.{Ran}
 use Rattle.capi.proofs.Indexes.{Low, low-need, low-then, low-verdict}
 use Rattle.capi.proofs.Fields.{named}
 use Rattle.capi.proofs.Bounds.{Within, ends, halts, keeps-run}
 use Rattle.book.specs.declared.Verdict.the-variants as verdicts
 
 -- an index or a node, and the bytes of a whole trace
-pub record Small (r : Ran) : Type 0 where
-  pub at : r .at < 1024
-  pub bytes : r .bytes ≤ 65536
+pub record Small (v : Values) : Type 0 where
+  pub at : v .at < 1024
+  pub bytes : v .bytes ≤ 65536
 
 small-result : (budget : ℕ) (m : Memory) {o : Out (Unit {0})} → length (m .trace) ≤ 65536 → Within (length (m .trace) / 8) o
-    → Small (ran (result-of budget m o .answer))
-unfolding ran values result-of
+    → Small (values (result-of budget m o .answer))
+unfolding values result-of
 small-result budget m l (ends h) = record { at = lit< tt; bytes = omega arith }
 small-result budget m l (halts h n) = record { at = n; bytes = omega arith }
 
 module _ (file : List ℕ) (budget : ℕ) (m : Memory) where
-  small : (v : Verdict) → call-verdict file budget m ≡ v → Low v → Small (ran (answered true file budget m v .answer))
-  unfolding call-verdict answered run-book start-state ran values loaded
+  small : (v : Verdict) → call-verdict file budget m ≡ v → Low v → Small (values (answered true file budget m v .answer))
+  unfolding call-verdict answered run-book start-state values loaded
   small (verdicts.Refused number index) e l = record { at = l; bytes = lit≤ tt }
   small verdicts.Accepted e l =
       let passed = accepts-both (need 1 _) (verdict file) e in
@@ -47,22 +46,16 @@ module _ (file : List ℕ) (budget : ℕ) (m : Memory) where
       small-result budget m (leb-true _ _ (trace .0))
       (keeps-run (script (decode file)) (named file (passed .1)) true budget (start-state (decode file) budget (length (m .trace) / 8)))
 
-  pub run-small : Small (run-call file budget m .answer)
-  unfolding run-call run-numbers call call-verdict
-  run-small = small (call-verdict file budget m) refl (low-then _ _ (low-need 1 _) λ _. low-verdict file)
+  call-small : Small (values (call true file budget m .answer))
+  unfolding call call-verdict
+  call-small = small (call-verdict file budget m) refl (low-then _ _ (low-need 1 _) λ _. low-verdict file)
 
-  module _ (a : Answer) (after : Memory) (e : record { answer = a; memory = after } ≡ call true file budget m) where
-    pub run-refused : (number index : ℕ) → a ≡ Refused number index
-        → record { answer = record { number = number; at = index; cost = 0; bytes = 0 }; memory = after } ≡ run-call file budget m
-    unfolding run-call run-numbers ran values
-    run-refused number index q = rw q at (ap run-numbers e)
+  module _ (a : Answer) (after : Memory) (e : record { answer = a; memory = after } ≡ call true file budget m) (v : Values) (q : v ≡ values a) where
+    pub run-told : record { answer = record { number = v .number; at = v .at; cost = v .cost; bytes = v .bytes }; memory = after } ≡ run-call file budget m
+    unfolding run-call run-numbers ran
+    run-told = rw q (ap run-numbers e)
 
-    pub run-stopped : (number node cost bytes : ℕ) → a ≡ Stopped number node cost bytes
-        → record { answer = record { number = number; at = node; cost = cost; bytes = bytes }; memory = after } ≡ run-call file budget m
-    unfolding run-call run-numbers ran values
-    run-stopped number node cost bytes q = rw q at (ap run-numbers e)
-
-    pub run-finished : (cost bytes : ℕ) → a ≡ Finished cost bytes
-        → record { answer = record { number = 0; at = 0; cost = cost; bytes = bytes }; memory = after } ≡ run-call file budget m
-    unfolding run-call run-numbers ran values
-    run-finished cost bytes q = rw q at (ap run-numbers e)
+    pub run-small : Small v
+    run-small =
+        let same : a ≡ call true file budget m .answer = ap (λ (r : Result). r .answer) e in
+        rw (q, same) call-small

@@ -17,7 +17,8 @@ use Rattle.book.proofs.Verdicts.{accepts-both}
 use Rattle.encoder.proofs.Codec.{length-section, cells-codec, regions-codec, rights-codec, nodes-codec, programs-codec, triggers-codec}
 use Rattle.encoder.proofs.Writes.{cells-few}
 use Rattle.writer.specs.Write.{write-fits, write-verdict, rewritten, write-answer}
-use Rattle.capi.specs.Calls.{loaded, written, write-numbers, write-call}
+use Rattle.capi.specs.Calls.{loaded, written, WriteCall, write-numbers, write-call}
+use Rattle.capi.specs.declared.Answered.{Answered}
 use Rattle.capi.proofs.Indexes.{Low, low-need, low-then, low-verdict}
 use Rattle.book.specs.declared.Verdict.the-variants as verdicts
 use Rattle.writer.specs.Write as writer
@@ -64,21 +65,27 @@ module _ (file : List ℕ) (amounts : List ℤ) (presence out : List ℕ) where
   small verdicts.Accepted h = length-new (h refl)
   small (verdicts.Refused number index) h = lit≤ tt
 
-  pub write-low : write-call file amounts presence out .answer .at < 1024
+  write-low : write-call file amounts presence out .answer .at < 1024
   unfolding write-call write-numbers writer.write-call write-verdict
   write-low = low _ (low-then _ _ (low-need 1 _) λ _. low-verdict file)
 
-  pub write-small : write-call file amounts presence out .answer .length ≤ 60000
+  write-small : write-call file amounts presence out .answer .length ≤ 60000
   unfolding write-call write-numbers writer.write-call write-verdict
   write-small = small (write-verdict file amounts presence out) (λ e. accepts-both (need 1 (write-fits amounts presence out)) _ e .1)
 
   module _ (a : answers.Written) (o : List ℕ) (e : record { answer = a; out = o } ≡ writer.write-call file amounts presence out) where
-    pub write-refused : (number index : ℕ) → a ≡ writtens.Refused number index
-        → record { answer = record { number = number; at = index; length = 0 }; out = o } ≡ write-call file amounts presence out
-    unfolding write-call write-numbers written
-    write-refused number index q = rw q at (ap write-numbers e)
+    module _ (number index : ℕ) (q : a ≡ writtens.Refused number index) where
+      pub write-refused : (r : Answered) → r ≡ record { number = number; at = index; length = 0 } → record { answer = r; out = o } ≡ write-call file amounts presence out
+      unfolding write-call write-numbers written
+      write-refused r t = rw t (rw q at (ap write-numbers e))
 
-    pub write-wrote : (n : ℕ) → a ≡ writtens.Wrote n
-        → record { answer = record { number = 0; at = 0; length = n }; out = o } ≡ write-call file amounts presence out
-    unfolding write-call write-numbers written
-    write-wrote n q = rw q at (ap write-numbers e)
+      pub write-index : index < 1024
+      write-index = omega (arith, write-low, ap (λ (c : WriteCall). c .answer .at) (write-refused _ refl))
+
+    module _ (n : ℕ) (q : a ≡ writtens.Wrote n) where
+      pub write-wrote : (r : Answered) → r ≡ record { number = 0; at = 0; length = n } → record { answer = r; out = o } ≡ write-call file amounts presence out
+      unfolding write-call write-numbers written
+      write-wrote r t = rw t (rw q at (ap write-numbers e))
+
+      pub write-length : n ≤ 60000
+      write-length = omega (arith, write-small, ap (λ (c : WriteCall). c .answer .length) (write-wrote _ refl))

@@ -1,5 +1,6 @@
 // The runner, the loader and the writer for C and Rust. include/kagyurma.h declares them.
 ghost use mathlib.Core.Path.{_≡_};
+ghost use Prim.Native.Nat.{_≤_, _<_};
 ghost use Rattle.capi.specs.Calls.{run-call, load-call, write-call};
 
 // How a run ended: the paper's number, 0 if it finished; the node of a stop or the index of a refusal; the cost spent and the
@@ -20,6 +21,18 @@ pub struct Answered {
     pub length: u32,
 }
 
+// An answer in 32 bits: a refusal's index is below 1,024, and a book has at most 60,000 bytes.
+fn told(number: u32, index: usize, length: usize) -> Answered
+    requires { ⌜ (index < 1024) × (length ≤ 60000) ⌝ }
+    ensures { λ r. ⌜ r ≡ record { number = number; at = index; length = length } ⌝ }
+{
+    Answered {
+        number,
+        at: index as u32,
+        length: length as u32,
+    }
+}
+
 // Runs the book in a file in lent memory.
 #[no_mangle]
 pub extern "C" fn kagyurma_run(
@@ -33,25 +46,13 @@ pub extern "C" fn kagyurma_run(
     ensures { λ r. ⌜ record { answer = r; memory = record { amounts = now (amounts .exit); presence = now (presence .exit); labels = now (labels .exit); trace = now (trace .exit) } }
         ≡ run-call (now (file .entry)) budget (record { amounts = now (amounts .entry); presence = now (presence .entry); labels = now (labels .entry); trace = now (trace .entry) }) ⌝ }
 {
-    match runner::run(file, budget, amounts, presence, labels, trace) {
-        monitor::Answer::Refused(number, index) => Ran {
-            number,
-            at: index as u32,
-            cost: 0,
-            bytes: 0,
-        },
-        monitor::Answer::Stopped(number, node, cost, bytes) => Ran {
-            number,
-            at: node as u32,
-            cost,
-            bytes: bytes as u32,
-        },
-        monitor::Answer::Finished(cost, bytes) => Ran {
-            number: 0,
-            at: 0,
-            cost,
-            bytes: bytes as u32,
-        },
+    let answer = runner::run(file, budget, amounts, presence, labels, trace);
+    let values = entry::values_of(answer);
+    Ran {
+        number: values.number,
+        at: values.at as u32,
+        cost: values.cost,
+        bytes: values.bytes as u32,
     }
 }
 
@@ -67,16 +68,8 @@ pub extern "C" fn kagyurma_load(
         ≡ load-call (now (file .entry)) (now (amounts .entry)) (now (presence .entry)) (now (labels .entry)) ⌝ }
 {
     match loader::load(file, amounts, presence, labels) {
-        book::Verdict::Accepted => Answered {
-            number: 0,
-            at: 0,
-            length: 0,
-        },
-        book::Verdict::Refused(number, index) => Answered {
-            number,
-            at: index as u32,
-            length: 0,
-        },
+        book::Verdict::Accepted => told(0, 0, 0),
+        book::Verdict::Refused(number, index) => told(number, index, 0),
     }
 }
 
@@ -91,15 +84,7 @@ pub extern "C" fn kagyurma_write(
     ensures { λ r. ⌜ record { answer = r; out = now (out .exit) } ≡ write-call (now (file .entry)) (now (amounts .entry)) (now (presence .entry)) (now (out .entry)) ⌝ }
 {
     match writer::write(file, amounts, presence, out) {
-        writer::Written::Refused(number, index) => Answered {
-            number,
-            at: index as u32,
-            length: 0,
-        },
-        writer::Written::Wrote(length) => Answered {
-            number: 0,
-            at: 0,
-            length: length as u32,
-        },
+        writer::Written::Refused(number, index) => told(number, index, 0),
+        writer::Written::Wrote(length) => told(0, 0, length),
     }
 }

@@ -15,24 +15,13 @@ fn draw(
     case_lines::draw_bytes(trace, after_labels);
 }
 
-// The four numbers of an answer: 0 where it has none.
-fn numbers_of(answer: monitor::Answer) -> [usize; 4] {
-    match answer {
-        monitor::Answer::Refused(number, index) => [number as usize, index, 0, 0],
-        monitor::Answer::Stopped(number, node, cost, bytes) => {
-            [number as usize, node, cost as usize, bytes]
-        }
-        monitor::Answer::Finished(cost, bytes) => [0, 0, cost as usize, bytes],
-    }
-}
-
 // Prints the four numbers of an answer.
 fn print_answer(answer: monitor::Answer) {
-    let numbers = numbers_of(answer);
-    case_lines::print(numbers[0]);
-    case_lines::print(numbers[1]);
-    case_lines::print(numbers[2]);
-    case_lines::print(numbers[3]);
+    let values = entry::values_of(answer);
+    case_lines::print(values.number as usize);
+    case_lines::print(values.at);
+    case_lines::print(values.cost as usize);
+    case_lines::print(values.bytes);
 }
 
 // Does a case and prints its line.

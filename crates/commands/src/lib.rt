@@ -463,19 +463,19 @@ fn led(file: &[u8], nodes: usize, n: usize, answer: Value) -> Next
     requires { ⌜ (verdict (now file) ≡ Accepted) × (nodes ≡ section (now file) 3 .start) × (n < count (now file) 3) ⌝ }
     ensures { λ r. ⌜ r ≡ leads (node-at (decode (now (file .entry))) n) answer ⌝ }
 {
-    match answer {
-        Value::Stopped(number, node) => Next::End(Outcome::Stopped(number, node)),
-        Value::Known(value) => {
-            let at = nodes + 16 * n;
-            if value != 0 {
-                return Next::Enter(numbers::u16_at(file, at + 4));
-            }
-            if file[at] == 20 {
-                return Next::End(Outcome::Done);
-            }
-            Next::Enter(numbers::u16_at(file, at + 6))
-        }
+    let Value::Known(value) = answer else {
+        let stop = machine::failed(answer, 0, 0);
+        let outcome = stop.outcome;
+        return Next::End(outcome);
+    };
+    let at = nodes + 16 * n;
+    if value != 0 {
+        return Next::Enter(numbers::u16_at(file, at + 4));
     }
+    if file[at] == 20 {
+        return Next::End(Outcome::Done);
+    }
+    Next::Enter(numbers::u16_at(file, at + 6))
 }
 
 // The end that a test leads to.

@@ -84,15 +84,6 @@ fn print_end(answer: monitor::Answer) {
     io::write_all(1, b"\n");
 }
 
-// How many bytes of the trace a run has written.
-fn bytes_of(answer: monitor::Answer) -> usize {
-    match answer {
-        monitor::Answer::Refused(_, _) => 0,
-        monitor::Answer::Stopped(_, _, _, bytes) => bytes,
-        monitor::Answer::Finished(_, bytes) => bytes,
-    }
-}
-
 // Reads a book, runs it with a budget of 100,000 and 4,096 trace bytes, and prints its lines. The longest book has 60,000 bytes;
 // one more is read, so that a longer input is refused and not cut.
 pub fn list() {
@@ -110,6 +101,7 @@ pub fn list() {
         &mut labels,
         &mut trace,
     );
-    print_records(&trace, bytes_of(answer));
+    let values = entry::values_of(answer);
+    print_records(&trace, values.bytes);
     print_end(answer);
 }

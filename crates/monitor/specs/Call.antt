@@ -18,6 +18,7 @@ use Rattle.monitor.specs.Run.{Cell, Rights, State, Rec, said, changed, O
 use Rattle.monitor.specs.Rules.{run}
 use Rattle.monitor.specs.declared.Answer.{Answer}
 use Rattle.monitor.specs.declared.Answer.the-variants.{Refused, Stopped, Finished}
+use Rattle.monitor.specs.declared.Values.{Values}
 use Rattle.book.specs.declared.Verdict.the-variants as verdicts
 
 -- lent memory
@@ -32,13 +33,7 @@ pub record Result : Type 0 where
   pub answer : Answer
   pub memory : Memory
 
--- an answer in the paper's numbers; a refusal has no cost and no trace bytes
-pub record Values : Type 0 where
-  pub number : ℕ
-  pub at : ℕ
-  pub cost : ℕ
-  pub bytes : ℕ
-
+-- the paper's number and values for each answer; a refusal has no cost and no trace bytes, and a finished run no node
 unfoldable pub values : Answer → Values
 values (Refused number index) = record { number = number; at = index; cost = 0; bytes = 0 }
 values (Stopped number node cost bytes) = record { number = number; at = node; cost = cost; bytes = bytes }

@@ -7,3 +7,12 @@ pub enum Answer {
     Stopped(u32, usize, u32, usize),
     Finished(u32, usize),
 }
+
+// An answer in the paper's numbers: the refusal, the stop, or 0; the first bad record's index, or the node; the cost spent; the
+// trace bytes written. What an answer lacks is 0.
+pub struct Values {
+    pub number: u32,
+    pub at: usize,
+    pub cost: u32,
+    pub bytes: usize,
+}

@@ -3,7 +3,6 @@
 use mathlib.Core.Path.{_≡_, refl, _∙_}
 use mathlib.Core.Bool.{Bool, true, false, _&&_, _||_, not, or-true, false≢true}
 use mathlib.Core.List.{List}
-use mathlib.Core.Logic.{_↔_}
 use Prim.Native.Nat.{ℕ, zero, suc, _+_, _<_}
 use native.Mathlib.Decide.{ℕ-discrete}
 use native.Mathlib.Nat.{not-suc-le-zero}
@@ -14,36 +13,12 @@ use lib.Dec.{eqb, ltb}
 use borrow.Author.Tests.{ltb-true, not-false}
 use Rattle.book.specs.Records.{NodeRecord, Book}
 use Rattle.book.specs.Layout.{count, decode}
-use Rattle.book.specs.Kinds.{no-kind, expression, command, constant, between, sort-of, Fields, fields-of}
+use Rattle.book.specs.Kinds.{no-kind, constant, sort-of, Fields, fields-of}
 use Rattle.book.specs.Refusals.{first, node-at, sorted, field-fits, is-zero, node-fits, bad-node, forbidden, child, reaches}
 use Rattle.book.proofs.First.{below-first}
 use Rattle.book.proofs.Decoded.{count-nodes}
 use Rattle.book.proofs.Chains.{or-hold, both}
-
--- whether a field in this role names a child
-abbrev pub names-child : ℕ → Bool
-names-child role = between expression command role
-
-module _ (b : Book) where
-  -- the roles of node i's fields
-  abbrev pub roles : ℕ → Fields
-  roles i = fields-of (node-at b i .kind)
-
-  -- the children of node i
-  pub data Child (i : ℕ) : ℕ → Type 0 where
-    in-a : names-child (roles i .a) ≡ true → Child i (node-at b i .a)
-    in-b : names-child (roles i .b) ≡ true → Child i (node-at b i .b)
-    in-c : names-child (roles i .c) ≡ true → Child i (node-at b i .c)
-    in-d : names-child (roles i .d) ≡ true → Child i (node-at b i .d)
-
-  -- node i reaches this kind: its own, or one that a child of it reaches
-  pub data Reaches : ℕ → ℕ → Type 0 where
-    own : {i : ℕ} → Reaches i (node-at b i .kind)
-    down : {i v kind : ℕ} → Child i v → Reaches v kind → Reaches i kind
-
-  -- each of the nodes is good
-  pub record GoodNodes : Type 0 where
-    pub good : (i : ℕ) → i < length (b .nodes) → node-fits b i ≡ true
+use Rattle.reaching.specs.Reaching.{names-child, roles, Child, in-a, in-b, in-c, in-d, Reaches, own, down, ReachesForbidden, GoodNodes, ReachesMeans}
 
 -- ---- the children of a good node have lower numbers
 
@@ -148,12 +123,8 @@ one-of false false false true d e by-kind by-a by-b by-c by-d = by-c refl
 one-of false false false false d e by-kind by-a by-b by-c by-d = by-d e
 
 module _ (b : Book) where
-  -- a kind that node i reaches and that is forbidden
-  abbrev pub ReachesForbidden : ℕ → Type 0
-  ReachesForbidden i = (kind : ℕ) × Reaches b i kind × (forbidden kind ≡ true)
-
   -- what is found is reached
-  sound : (n i : ℕ) → reaches b n i ≡ true → ReachesForbidden i
+  sound : (n i : ℕ) → reaches b n i ≡ true → ReachesForbidden b i
   unfolding reaches
   sound zero i e = absurd (false≢true e)
   sound (suc n) i e =
@@ -170,7 +141,7 @@ module _ (b : Book) where
       (via (sound n) (roles b i .c) (node-at b i .c) in-c)
       (via (sound n) (roles b i .d) (node-at b i .d) in-d)
     where
-      via : ((v : ℕ) → reaches b n v ≡ true → ReachesForbidden v) → (role v : ℕ) → (names-child role ≡ true → Child b i v) → child (reaches b n) role v ≡ true → ReachesForbidden i
+      via : ((v : ℕ) → reaches b n v ≡ true → ReachesForbidden b v) → (role v : ℕ) → (names-child role ≡ true → Child b i v) → child (reaches b n) role v ≡ true → ReachesForbidden b i
       via below role v c e =
           let t = both (names-child role) (reaches b n v) e in
           let r = below v (t .1) in
@@ -192,9 +163,8 @@ module _ (b : Book) where
       let e = deep-enough b nodes i (suc v) v l (omega arith) (omega arith) in
       step-child (reaches b i) c (e ∙ complete nodes r f (omega arith))
 
-  -- in a book whose nodes are good, a forbidden kind is found exactly where one is reached from parent to child
-  pub reaches-means : GoodNodes b → (i : ℕ) → i < length (b .nodes) → (reaches b (length (b .nodes)) i ≡ true) ↔ ReachesForbidden i
-  reaches-means nodes i h = (sound (length (b .nodes)) i, λ r. deep-enough b nodes _ (suc i) i h (omega arith) h ∙ complete nodes (r .1) (r .2) h)
+pub reaches-means : ReachesMeans
+reaches-means b nodes i h = (sound b (length (b .nodes)) i, λ r. deep-enough b nodes _ (suc i) i h (omega arith) h ∙ complete b nodes (r .1) (r .2) h)
 
 -- ---- the nodes of a file
 

@@ -6,7 +6,10 @@ use native.Mathlib.Omega.{arith}
 use borrow.Author.Tests.{eq-eqb, ne-eqb}
 use Rattle.book.specs.Layout.{decode}
 use Rattle.book.specs.Refusals.{node-at}
+use Rattle.machine.specs.Promises.{stop-of}
+use Rattle.machine.specs.declared.Value.{Value}
 use Rattle.machine.specs.declared.Outcome.the-variants.{Done}
+use Rattle.machine.specs.declared.Ran.{Ran}
 use Rattle.machine.proofs.Nodes.{Read, read-at}
 use Rattle.commands.specs.declared.Next.the-variants.{Enter, End}
 use Rattle.commands.specs.Parts.{leads}
@@ -22,8 +25,18 @@ node s = read-at (s .args .file .now) (s .pre .0) (s .args .n) (s .pre .2) (s .a
 enum-known-answer : tie.Need-enum-known-answer
 enum-known-answer c = c .match .keys1
 
-enum-known-answer-2 : tie.Need-enum-known-answer-2
-enum-known-answer-2 c = c .match .keys2
+enum-told : tie.Need-enum-told
+enum-told c = c .match .keys2
+
+failed-requires : tie.Need-failed-requires
+failed-requires c κs = tt
+
+returns : tie.Need-returns
+unfolding leads stop-of
+returns c =
+    let s = c .before .before .before .before in
+    let told = c .before .enum-told .given .1 in
+    ap (λ (r : Ran). End (r .outcome)) (c .failed .ensures) ∙ ap (λ (v : Value). End (stop-of v)) told ∙ sym (ap (leads (node-at (decode (s .args .file .now)) (s .args .n))) told)
 
 mul-at : tie.Need-mul-at
 mul-at c =
@@ -45,10 +58,10 @@ u16-at-requires c κs =
     let s = c .before .before .before .before .before in
     omega (arith, node s .end, node s .short)
 
-returns : tie.Need-returns
-returns c =
+returns-2 : tie.Need-returns-2
+returns-2 c =
     let s = c .before .before .before .before .before .before in
-    let told = c .before .before .before .answer2 .given in
+    let told = c .before .before .before .answer .given in
     sym (ap (leads (node-at (decode (s .args .file .now)) (s .args .n))) (told .1) ∙ leads-other (node-at (decode (s .args .file .now)) (s .args .n)) (told .0 .0) (other-bits (told .0 .0) (c .before .if1 .taken))
     ∙ ap (λ (way : ℕ). Enter way) (sym (c .u16-at .ensures .0 ∙ node s .b)))
 
@@ -57,11 +70,11 @@ shared-slice-read-if2 c =
     let s = c .before .before .before .before .before .before in
     omega (arith, node s .end, node s .short)
 
-returns-2 : tie.Need-returns-2
-returns-2 c =
+returns-3 : tie.Need-returns-3
+returns-3 c =
     let s = c .before .before .before .before .before .before .before in
-    let told = c .before .before .before .before .answer2 .given in
-    let zero = zero-bits (told .0 .0) (c .before .before .before .known-told2 .given .0 .1) (c .before .before .if1 .left) in
+    let told = c .before .before .before .before .answer .given in
+    let zero = zero-bits (told .0 .0) (c .before .before .before .known-told .given .0 .1) (c .before .before .if1 .left) in
     sym (ap (leads (node-at (decode (s .args .file .now)) (s .args .n))) (told .1) ∙ leads-zero (node-at (decode (s .args .file .now)) (s .args .n)) (told .0 .0) zero
     ∙ ap (λ (y : Bool). cond y (End Done) (Enter ((node-at (decode (s .args .file .now)) (s .args .n)) .c))) (eq-eqb ((node-at (decode (s .args .file .now)) (s .args .n)) .kind) 20 (sym (node s .kind) ∙ c .if2 .taken)))
 
@@ -75,17 +88,11 @@ u16-at-requires-2 c κs =
     let s = c .before .before .before .before .before .before .before in
     omega (arith, node s .end, node s .short)
 
-returns-3 : tie.Need-returns-3
-unfolding leads
-returns-3 c =
-    let s = c .before .before .before .before in
-    sym (ap (leads (node-at (decode (s .args .file .now)) (s .args .n))) (c .before .answer .given .1))
-
 returns-4 : tie.Need-returns-4
 returns-4 c =
     let s = c .before .before .before .before .before .before .before .before in
-    let told = c .before .before .before .before .before .answer2 .given in
-    let zero = zero-bits (told .0 .0) (c .before .before .before .before .known-told2 .given .0 .1) (c .before .before .before .if1 .left) in
+    let told = c .before .before .before .before .before .answer .given in
+    let zero = zero-bits (told .0 .0) (c .before .before .before .before .known-told .given .0 .1) (c .before .before .before .if1 .left) in
     let other = ne-eqb ((node-at (decode (s .args .file .now)) (s .args .n)) .kind) 20 (λ e. c .before .if2 .left (node s .kind ∙ e)) in
     sym (ap (leads (node-at (decode (s .args .file .now)) (s .args .n))) (told .1) ∙ leads-zero (node-at (decode (s .args .file .now)) (s .args .n)) (told .0 .0) zero ∙ ap (λ (y : Bool). cond y (End Done) (Enter ((node-at (decode (s .args .file .now)) (s .args .n)) .c))) other
     ∙ ap (λ (way : ℕ). Enter way) (sym (c .u16-at2 .ensures .0 ∙ node s .c)))
@@ -95,15 +102,16 @@ led-spec =
     tie.close
     (tie.spec
     enum-known-answer
-    enum-known-answer-2
+    enum-told
+    failed-requires
+    returns
     mul-at
     add-at
     add-u16-at
     u16-at-requires
-    returns
-    shared-slice-read-if2
     returns-2
+    shared-slice-read-if2
+    returns-3
     add-u16-at-2
     u16-at-requires-2
-    returns-3
     returns-4)

@@ -15,7 +15,8 @@ use Rattle.book.specs.declared.Row.{Row}
 use Rattle.book.proofs.Chains.{or-pass, or-hold}
 use Rattle.book.proofs.Decoded.{count-nodes}
 use Rattle.kinds.proofs.Sites.{Inside, few-nodes, node-is, node-inside}
-use Rattle.reaching.proofs.Reaching.{names-child, step, children-lower, good-nodes, file-flag-right}
+use Rattle.reaching.specs.Reaching.{names-child}
+use Rattle.reaching.proofs.Reaching.{step, children-lower, good-nodes, file-flag-right}
 use Rattle.reaching.proofs.reaches.Statement.{statement}
 use Rattle.reaching.proofs.reaches.Tie as tie
 
