@@ -1,39 +1,39 @@
 // The check of nodes (refusal 8): each field is as its kind says.
 ghost use mathlib.Core.Path.{_≡_};
 ghost use mathlib.Core.Bool.{_&&_, _||_};
-ghost use Prim.Native.Nat.{_+_, _≤_, _<_};
+ghost use Prim.Native.Nat.{_+_, _≤_};
 ghost use lib.Dec.{eqb, ltb};
-ghost use lib.ListN.{length};
+ghost use lib.ListN.{length, getD};
 ghost use Rattle.book.specs.Bytes.{le32, signed32};
-ghost use Rattle.book.specs.Layout.{count, section, decode};
+ghost use Rattle.book.specs.Records.{Book};
+ghost use Rattle.book.specs.Layout.{count, decode};
 ghost use Rattle.book.specs.Kinds.{constant};
-ghost use Rattle.book.specs.Refusals.{first, Laid, bad-node, sorted, field-fits, is-zero, node-fits};
+ghost use Rattle.book.specs.Refusals.{first, Laid, bad-node, field-fits, is-zero, node-fits};
+ghost use Rattle.nodes.specs.Known.{Known, Stands};
 
 // Whether node `n` may name `v` as a child of this sort: a lower number, and the right sort.
-fn child_fits(file: &[u8], nodes: book::Section, n: usize, sort: u8, v: usize) -> bool
-    requires { ⌜ Laid (now file) × (nodes ≡ section (now file) 3) × (n < count (now file) 3) ⌝ }
-    ensures { λ r. ⌜ r ≡ (ltb v n && sorted (decode (now (file .entry))) sort v) ⌝ }
+fn child_fits(sorts: &[u8; 1024], n: usize, sort: u8, v: usize) -> bool
+    requires { ⌜ n ≤ 1024 ⌝ }
+    ensures { λ r. ⌜ r ≡ (ltb v n && eqb (getD (now (sorts .entry)) v 0) sort) ⌝ }
 {
     if n <= v {
         return false;
     }
-    kinds::sort_at(file, nodes, v) == sort
+    sorts[v] == sort
 }
 
-// Whether a field of node `n`, in this role, may hold `v`.
-fn field_fits(
-    file: &[u8],
-    nodes: book::Section,
-    regions: usize,
-    n: usize,
-    role: u8,
-    v: usize,
-) -> bool
-    requires { ⌜ Laid (now file) × (nodes ≡ section (now file) 3) × (regions ≡ count (now file) 1) × (n < count (now file) 3) ⌝ }
-    ensures { λ r. ⌜ r ≡ field-fits (decode (now (file .entry))) n role v ⌝ }
+// Whether a field of node `n`, in this role, may hold `v`. Most fields are not named, and most that are name a child.
+fn field_fits(regions: usize, sorts: &[u8; 1024], n: usize, role: u8, v: usize) -> bool
+    requires { ⌜ n ≤ 1024 ⌝ }
+    ensures { λ r. ⌜ ((b : Book) → Known b regions (now (sorts .entry)) n → r ≡ field-fits b n role v) ⌝ }
 {
+    if role < kinds::EXPRESSION {
+        return v == 0;
+    }
+    if role <= kinds::COMMAND {
+        return child_fits(sorts, n, role, v);
+    }
     match role {
-        kinds::EXPRESSION | kinds::COMMAND => child_fits(file, nodes, n, role, v),
         kinds::VARIABLE => v < 16,
         kinds::TABLE | kinds::USER => v < 8,
         kinds::REGION => v < regions,
@@ -53,58 +53,35 @@ fn constant_fits(file: &[u8], at: usize, role: u8) -> bool
     numbers::u32_at(file, at) == 0
 }
 
-// Whether node `n` is of a kind that there is, and each of its fields is as its kind says.
-fn node_fits(file: &[u8], nodes: book::Section, regions: usize, n: usize) -> bool
-    requires { ⌜ Laid (now file) × (nodes ≡ section (now file) 3) × (regions ≡ count (now file) 1) × (n < count (now file) 3) ⌝ }
+// Whether node `n`, whose record is at byte `at`, is of a kind that there is, and each of its fields is as the kind's row says.
+fn node_fits(
+    file: &[u8],
+    regions: usize,
+    sorts: &[u8; 1024],
+    n: usize,
+    at: usize,
+    row: book::Row,
+) -> bool
+    requires { ⌜ Stands (now file) n at row ⌝ }
+    requires { ⌜ Known (decode (now file)) regions (now sorts) n ⌝ }
     ensures { λ r. ⌜ r ≡ node-fits (decode (now (file .entry))) n ⌝ }
 {
-    let start = nodes.start;
-    let at = start + 16 * n;
-    let row = kinds::row_of(file[at]);
     if row.sort == kinds::NO_KIND {
         return false;
     }
-    if !field_fits(file, nodes, regions, n, row.p, file[at + 1] as usize) {
+    if !field_fits(regions, sorts, n, row.p, file[at + 1] as usize) {
         return false;
     }
-    if !field_fits(
-        file,
-        nodes,
-        regions,
-        n,
-        row.a,
-        numbers::u16_at(file, at + 2),
-    ) {
+    if !field_fits(regions, sorts, n, row.a, numbers::u16_at(file, at + 2)) {
         return false;
     }
-    if !field_fits(
-        file,
-        nodes,
-        regions,
-        n,
-        row.b,
-        numbers::u16_at(file, at + 4),
-    ) {
+    if !field_fits(regions, sorts, n, row.b, numbers::u16_at(file, at + 4)) {
         return false;
     }
-    if !field_fits(
-        file,
-        nodes,
-        regions,
-        n,
-        row.c,
-        numbers::u16_at(file, at + 6),
-    ) {
+    if !field_fits(regions, sorts, n, row.c, numbers::u16_at(file, at + 6)) {
         return false;
     }
-    if !field_fits(
-        file,
-        nodes,
-        regions,
-        n,
-        row.d,
-        numbers::u16_at(file, at + 8),
-    ) {
+    if !field_fits(regions, sorts, n, row.d, numbers::u16_at(file, at + 8)) {
         return false;
     }
     if !constant_fits(file, at + 10, row.k) {
@@ -113,18 +90,23 @@ fn node_fits(file: &[u8], nodes: book::Section, regions: usize, n: usize) -> boo
     numbers::u16_at(file, at + 14) == 0
 }
 
-// The first bad node, or their number if there is none.
+// The first bad node, or their number if there is none. The sorts of the nodes passed are kept for those that name them as children.
 pub fn first_bad_node(file: &[u8]) -> usize
     requires { ⌜ Laid (now file) ⌝ }
     ensures { λ r. ⌜ r ≡ first (bad-node (decode (now (file .entry)))) (count (now (file .entry)) 3) ⌝ }
 {
     let regions = book::section_at(file, 1);
     let nodes = book::section_at(file, 3);
+    let table = kinds::table();
+    let mut sorts = [kinds::NO_KIND; 1024];
     let mut node: usize = 0;
     while node < nodes.count {
-        if !node_fits(file, nodes, regions.count, node) {
+        let at = nodes.start + 16 * node;
+        let row = kinds::row_of(&table, file[at]);
+        if !node_fits(file, regions.count, &sorts, node, at, row) {
             return node;
         }
+        sorts[node] = row.sort;
         node += 1;
     }
     node

@@ -1,23 +1,23 @@
 -- What a node reaches. In a book whose nodes are good, children have lower numbers. So the definition of `reaches` is about what is
 -- reached from parent to child (`reaches-means`), and one pass over the nodes finds it for each of them (`flag-right`). Assumes nothing.
-use mathlib.Core.Path.{_≡_, refl, _∙_}
-use mathlib.Core.Bool.{Bool, true, false, _&&_, _||_, not, or-true, false≢true}
+use mathlib.Core.Path.{_≡_, refl, sym, _∙_}
+use mathlib.Core.Bool.{Bool, true, false, _&&_, _||_, not, cond, and-false, or-true, false≢true}
 use mathlib.Core.List.{List}
-use Prim.Native.Nat.{ℕ, zero, suc, _+_, _<_}
-use native.Mathlib.Decide.{ℕ-discrete}
-use native.Mathlib.Nat.{not-suc-le-zero}
+use Prim.Native.Nat.{ℕ, zero, suc, _≤_, _<_}
+use native.Mathlib.Nat.{not-suc-le-zero, lt-of-not-le}
 use native.Mathlib.Omega.{arith}
-use lib.ListN.{length, getD, set, length-set}
-use lib.Seq.{getD-set-same, getD-set-other}
-use lib.Dec.{eqb, ltb}
-use borrow.Author.Tests.{ltb-true, not-false}
+use lib.ListN.{length, replicate, getD-replicate}
+use lib.Dec.{eqb, leb, ltb}
+use borrow.Author.Tests.{eq-eqb, eqb-true, lt-leb, ltb-true, not-true, not-false}
 use Rattle.book.specs.Records.{NodeRecord, Book}
 use Rattle.book.specs.Layout.{count, decode}
-use Rattle.book.specs.Kinds.{no-kind, constant, sort-of, Fields, fields-of}
+use Rattle.book.specs.Start.{tabulate}
+use Rattle.book.specs.Kinds.{no-kind, expression, command, constant, between, sort-of, Fields, fields-of}
 use Rattle.book.specs.Refusals.{first, node-at, sorted, field-fits, is-zero, node-fits, bad-node, forbidden, child, reaches}
 use Rattle.book.proofs.First.{below-first}
 use Rattle.book.proofs.Decoded.{count-nodes}
-use Rattle.book.proofs.Chains.{or-hold, both}
+use Rattle.book.proofs.Chains.{or-pass, or-hold, both}
+use Rattle.book.proofs.Tabulate.{table-at}
 use Rattle.reaching.specs.Reaching.{names-child, roles, Child, in-a, in-b, in-c, in-d, Reaches, own, down, ReachesForbidden, GoodNodes, ReachesMeans}
 
 -- ---- the children of a good node have lower numbers
@@ -112,6 +112,69 @@ module _ (b : Book) where
         let n : ℕ = length (b .nodes) in
         step-same f (reaches b n) i e (nodes .good i h) ∙ deep-enough (suc n) n i (omega arith) h h
 
+-- ---- an expression leads to expressions alone, and none of them is forbidden
+
+-- the kinds of expression come before those of command
+module _ (kind : ℕ) where
+  outside : (low high : ℕ) → high < kind → between low high kind ≡ false
+  outside low high h = rw (lt-leb kind high h) (and-false (leb low kind))
+
+  other-sort : (t : Bool) → cond t command no-kind ≡ expression → ⊥
+  other-sort true e = omega arith
+  other-sort false e = omega arith
+
+  expressions-low : sort-of kind ≡ expression → kind < 12
+  unfolding sort-of
+  expressions-low e = lt-of-not-le (λ (h : 12 ≤ kind). other-sort (between 16 26 kind) (rw (outside 1 6 (omega arith), outside 8 11 (omega arith)) at e))
+
+-- a field in this role names no child, or an expression
+abbrev mild : ℕ → Bool
+mild role = not (names-child role) || eqb role expression
+
+-- a kind that is none of an expression, or is not forbidden and has no commands as children
+harmless : ℕ → Bool
+harmless kind =
+    not (eqb (sort-of kind) expression)
+    || (not (forbidden kind) && (mild (fields-of kind .a) && (mild (fields-of kind .b) && (mild (fields-of kind .c) && mild (fields-of kind .d)))))
+
+-- tested once, over the kinds of expression
+tested : (kind : ℕ) → kind < 12 → harmless kind ≡ true
+unfolding harmless tabulate sort-of fields-of forbidden
+tested kind h = sym (table-at harmless 12 (replicate 12 true) refl kind true h) ∙ getD-replicate 12 kind true true h
+
+parts : (kind a b c d : Bool) → not kind && (a && (b && (c && d))) ≡ true → (kind ≡ false) × (a ≡ true) × (b ≡ true) × (c ≡ true) × (d ≡ true)
+parts kind a b c d e =
+    let x = both (not kind) (a && (b && (c && d))) e in
+    let y = both a (b && (c && d)) (x .1) in
+    let z = both b (c && d) (y .1) in
+    let w = both c d (z .1) in
+    (not-true kind (x .0), y .0, z .0, w .0, w .1)
+
+module _ (b : Book) (nodes : GoodNodes b) where
+  module _ (f : ℕ → Bool) (i : ℕ) (none : (v : ℕ) → v < i → sort-of (node-at b v .kind) ≡ expression → f v ≡ false) where
+    no-child : (role v : ℕ) → mild role ≡ true → field-fits b i role v ≡ true → child f role v ≡ false
+    unfolding field-fits
+    no-child role v m h = go (names-child role) refl
+      where
+        go : (t : Bool) → names-child role ≡ t → child f role v ≡ false
+        go true e =
+            let r : role ≡ expression = eqb-true role expression (rw e at m) in
+            let t = both (ltb v i) (sorted b role v) (rw e at h) in
+            rw e (none v (ltb-true v i (t .0)) (eqb-true _ _ (t .1) ∙ r))
+        go false e = rw e
+
+  pub expression-safe : (n i : ℕ) → i < length (b .nodes) → sort-of (node-at b i .kind) ≡ expression → reaches b n i ≡ false
+  unfolding reaches harmless
+  expression-safe zero i h e = refl
+  expression-safe (suc n) i h e =
+      let kind : ℕ = node-at b i .kind in
+      let u : Fields = roles b i in
+      let good = good-fields b i (nodes .good i h) in
+      let none = no-child (reaches b n) i (λ v l q. expression-safe n v (omega arith) q) in
+      let p = parts (forbidden kind) (mild (u .a)) (mild (u .b)) (mild (u .c)) (mild (u .d)) (rw (eq-eqb _ _ e) at (tested kind (expressions-low kind e))) in
+      or-pass (p .0)
+      (or-pass (none _ _ (p .1) (good .0)) (or-pass (none _ _ (p .2) (good .1)) (or-pass (none _ _ (p .3) (good .2)) (none _ _ (p .4) (good .3)))))
+
 -- ---- the definition says what the paper says
 
 one-of : {A : Type 0} (kind a b c d : Bool) → kind || (a || (b || (c || d))) ≡ true
@@ -176,20 +239,9 @@ module _ (s : List ℕ) (e : first (bad-node (decode s)) (count s 3) ≡ count s
       fits : (i : ℕ) → i < length (decode s .nodes) → i < first (bad-node (decode s)) (count s 3)
       fits i h = rw (e, ← count-nodes s) h
 
+  pub file-expression-safe : (i : ℕ) → i < count s 3 → sort-of (node-at (decode s) i .kind) ≡ expression → reaches (decode s) (count s 3) i ≡ false
+  file-expression-safe i h = expression-safe (decode s) good-nodes (count s 3) i (rw (count-nodes s) h)
+
   pub file-flag-right : (f : ℕ → Bool) (i : ℕ) → i < count s 3 → ((j : ℕ) → j < i → f j ≡ reaches (decode s) (count s 3) j)
       → step (decode s) f i ≡ reaches (decode s) (count s 3) i
   file-flag-right = rw (← count-nodes s) (flag-right (decode s) good-nodes)
-
--- ---- the table of flags
-
--- the flags of the nodes below n are right
-pub record Flagged (s : List ℕ) (flags : List Bool) (n : ℕ) : Type 0 where
-  pub room : length flags ≡ 1024
-  pub right : (i : ℕ) → i < n → getD flags i false ≡ reaches (decode s) (count s 3) i
-
-pub flag-next : {s : List ℕ} {flags : List Bool} {n : ℕ} {flag : Bool} → n < 1024 → flag ≡ reaches (decode s) (count s 3) n → Flagged s flags n → Flagged s (set flags n flag) (n + 1)
-flag-next {s} {flags} {n} {flag} h e f = record { room = length-set flags n flag ∙ f .room; right = λ i l. go i l (ℕ-discrete i n) }
-  where
-    go : (i : ℕ) → i < n + 1 → Dec (i ≡ n) → getD (set flags n flag) i false ≡ reaches (decode s) (count s 3) i
-    go i l (yes q) = rw q (getD-set-same flags n flag false (omega (arith, f .room)) ∙ e)
-    go i l (no q) = getD-set-other flags n i flag false q ∙ f .right i (omega arith)

@@ -6,6 +6,7 @@ ghost use lib.ListN.{getD};
 ghost use Rattle.book.specs.Layout.{count, section, decode};
 ghost use Rattle.book.specs.Kinds.{expression, command, between};
 ghost use Rattle.book.specs.Refusals.{first, Laid, bad-node, forbidden, child, reaches};
+ghost use Rattle.kinds.specs.Table.{kinds-table};
 
 // Whether a trigger body may not reach this kind.
 fn forbidden(kind: u8) -> bool
@@ -29,8 +30,14 @@ fn flagged_child(flags: &[bool; 1024], role: u8, v: usize) -> bool
 }
 
 // Whether node `n` is of a forbidden kind or has a flagged child, where the nodes below it are flagged already.
-fn reaches(file: &[u8], nodes: book::Section, flags: &[bool; 1024], n: usize) -> bool
-    requires { ⌜ Laid (now file) × (nodes ≡ section (now file) 3) × (n < count (now file) 3) ⌝ }
+fn reaches(
+    file: &[u8],
+    table: &[[u8; 8]; 27],
+    nodes: book::Section,
+    flags: &[bool; 1024],
+    n: usize,
+) -> bool
+    requires { ⌜ Laid (now file) × (nodes ≡ section (now file) 3) × (n < count (now file) 3) × (now table ≡ kinds-table) ⌝ }
     requires { ⌜ first (bad-node (decode (now file))) (count (now file) 3) ≡ count (now file) 3 ⌝ }
     requires { ⌜ ((i : ℕ) → i < n → getD (now flags) i false ≡ reaches (decode (now file)) (count (now file) 3) i) ⌝ }
     ensures { λ r. ⌜ r ≡ reaches (decode (now (file .entry))) (count (now (file .entry)) 3) n ⌝ }
@@ -38,10 +45,14 @@ fn reaches(file: &[u8], nodes: book::Section, flags: &[bool; 1024], n: usize) ->
     let start = nodes.start;
     let at = start + 16 * n;
     let kind = file[at];
+    let row = kinds::row_of(table, kind);
+    // An expression leads to expressions alone.
+    if row.sort == kinds::EXPRESSION {
+        return false;
+    }
     if forbidden(kind) {
         return true;
     }
-    let row = kinds::row_of(kind);
     if flagged_child(flags, row.a, numbers::u16_at(file, at + 2)) {
         return true;
     }
@@ -60,10 +71,11 @@ pub fn reaching_flags(file: &[u8], nodes: book::Section) -> [bool; 1024]
     requires { ⌜ first (bad-node (decode (now file))) (count (now file) 3) ≡ count (now file) 3 ⌝ }
     ensures { λ r. ⌜ ((i : ℕ) → i < count (now (file .entry)) 3 → getD r i false ≡ reaches (decode (now (file .entry))) (count (now (file .entry)) 3) i) ⌝ }
 {
+    let table = kinds::table();
     let mut flags = [false; 1024];
     let mut flagged: usize = 0;
     while flagged < nodes.count {
-        let flag = reaches(file, nodes, &flags, flagged);
+        let flag = reaches(file, &table, nodes, &flags, flagged);
         flags[flagged] = flag;
         flagged += 1;
     }

@@ -12,19 +12,19 @@ use Rattle.kinds.proofs.costs.Statement.{statement}
 use Rattle.kinds.proofs.costs.Tie as tie
 
 abbrev Inv-loop : tie.InvT-loop
-Inv-loop costs₀ kind₀ costs kind = Filled 27 (tabulate cost-of 27) (replicate 27 0) costs kind
+Inv-loop table costs₀ kind₀ costs kind = Filled 27 (tabulate cost-of 27) (replicate 27 0) costs kind
 
 abbrev μ-loop : tie.MeasureT-loop
-μ-loop costs₀ kind₀ costs kind = 27 - kind
+μ-loop table costs₀ kind₀ costs kind = 27 - kind
+
+table-requires : tie.Need-table-requires Inv-loop μ-loop
+table-requires c κs = search needs
 
 loop-holds : tie.Need-loop-holds Inv-loop μ-loop
 loop-holds c = record { at = search needs; words = refl }
 
-cast-row-of : tie.Need-cast-row-of Inv-loop μ-loop
-cast-row-of c = search needs
-
-row-of-requires : tie.Need-row-of-requires Inv-loop μ-loop
-row-of-requires c κs = search needs
+row-at-requires : tie.Need-row-at-requires Inv-loop μ-loop
+row-at-requires c κs = search needs
 
 cast-costs : tie.Need-cast-costs Inv-loop μ-loop
 cast-costs c = search needs
@@ -44,9 +44,9 @@ loop-less c = search needs
 loop-again : tie.Need-loop-again Inv-loop μ-loop
 unfolding row-of
 loop-again c =
-    let l = c .before .before .before in
-    let lt : l .loop .kind < 27 = c .before .before .loop-test .taken in
-    let cost = ap (λ (r : Row). r .cost) (c .before .row-of .ensures) ∙ sym (tabulate-at cost-of 27 (l .loop .kind) 0 lt) in
+    let l = c .before .before .before .before in
+    let lt : l .loop .kind < 27 = c .before .before .before .loop-test .taken in
+    let cost = ap (λ (r : Row). r .cost) (c .before .row-at .ensures) ∙ sym (tabulate-at cost-of 27 (l .loop .kind) 0 lt) in
     filled-turn (length-tabulate cost-of 27) refl lt cost (l .loop .inv)
 
 returns : tie.Need-returns Inv-loop μ-loop
@@ -58,9 +58,9 @@ costs-spec =
     (tie.spec
     Inv-loop
     μ-loop
+    table-requires
     loop-holds
-    cast-row-of
-    row-of-requires
+    row-at-requires
     cast-costs
     mul-costs
     array-write-costs

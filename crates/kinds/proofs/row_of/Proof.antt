@@ -1,19 +1,17 @@
--- `kinds::row_of` meets its contract: the table computes to the first 27 rows, and past them there is no kind.
-use mathlib.Core.Path.{_≡_, refl, sym}
+-- `kinds::row_of` meets its contract: past the table there is no kind.
+use mathlib.Core.Path.{_≡_, sym, _∙_}
 use mathlib.Core.Bool.{false, and-false}
-use Prim.Native.Nat.{ℕ, _≤_}
+use Prim.Native.Nat.{ℕ, _<_}
 use native.Mathlib.Omega.{arith}
 use lib.Dec.{T, eqb, leb, leb→le}
 use borrow.Author.Needs.{needs}
 use borrow.Author.Tests.{ne-eqb, lt-leb}
 use Rattle.book.specs.Kinds.{between, cost-of, sort-of, fields-of, row-of}
-use Rattle.book.specs.Start.{tabulate}
-use Rattle.book.proofs.Tabulate.{table-at}
 use Rattle.kinds.proofs.row_of.Statement.{statement}
 use Rattle.kinds.proofs.row_of.Tie as tie
 
 -- a kind past the table is none of its kinds, nor between two of them
-module _ (kind : ℕ) (h : 27 ≤ kind) where
+module _ (kind : ℕ) (h : 26 < kind) where
   other : (n : ℕ) → T (leb n 26) → eqb kind n ≡ false
   other n t = ne-eqb kind n (λ e. omega (arith, leb→le n 26 t))
 
@@ -26,19 +24,17 @@ module _ (kind : ℕ) (h : 27 ≤ kind) where
       rw
       (outside 8 11 tt, outside 1 6 tt, outside 16 26 tt, outside 3 6 tt, outside 24 25 tt, other 1 tt, other 2 tt, other 17 tt, other 18 tt, other 19 tt, other 20 tt, other 21 tt, other 22 tt, other 23 tt, other 26 tt)
 
+row-at-requires : tie.Need-row-at-requires
+row-at-requires c κs = search needs
+
 returns : tie.Need-returns
-unfolding row-of cost-of sort-of fields-of
-returns c = sym (past (c .before .args .kind) (c .if1 .taken))
+returns c = c .row-at .ensures ∙ sym (past (c .before .before .args .kind) (c .before .if1 .taken))
 
-mul-result : tie.Need-mul-result
-mul-result c = search needs
-
-array-copy-out-result : tie.Need-array-copy-out-result
-array-copy-out-result c = search needs
+row-at-requires-2 : tie.Need-row-at-requires-2
+row-at-requires-2 c κs = search needs
 
 returns-2 : tie.Need-returns-2
-unfolding tabulate row-of cost-of sort-of fields-of
-returns-2 c = table-at row-of 27 _ refl (c .before .before .args .kind) _ (search needs)
+returns-2 c = search needs
 
 pub row-of-spec : {M : Type 1} → statement M
-row-of-spec = tie.close (tie.spec returns mul-result array-copy-out-result returns-2)
+row-of-spec = tie.close (tie.spec row-at-requires returns row-at-requires-2 returns-2)

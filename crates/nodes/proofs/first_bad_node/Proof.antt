@@ -1,22 +1,33 @@
--- `nodes::first_bad_node` meets its contract: no node before the one that is tested is bad.
-use mathlib.Core.Path.{_≡_, sym, ap, _∙_}
+-- `nodes::first_bad_node` meets its contract: no node before the one that is tested is bad, and their sorts are noted.
+use mathlib.Core.Path.{_≡_, refl, sym, ap, _∙_}
 use mathlib.Core.Bool.{not}
-use Prim.Native.Nat.{_≤_, _<_, _-_}
+use Prim.Native.Nat.{ℕ, _+_, _*_, _≤_, _<_, _-_}
 use native.Mathlib.Omega.{arith}
 use lib.Dec.{lit<}
+use borrow.Author.Needs.{needs}
+use Rattle.book.specs.Records.{NodeRecord, Book, nodes-format}
 use Rattle.book.specs.Layout.{count, decode}
-use Rattle.book.specs.Refusals.{bad-node}
+use Rattle.book.specs.Kinds.{sort-of, row-of}
+use Rattle.book.specs.Refusals.{node-at, bad-node}
+use Rattle.book.specs.declared.Row.{Row}
 use Rattle.book.specs.declared.Section.{Section}
 use Rattle.book.proofs.First.{NoneBelow, none-yet, none-next, first-found, first-none}
-use Rattle.kinds.proofs.Sites.{pair-inside}
+use Rattle.book.proofs.Decoded.{count-regions}
+use Rattle.kinds.proofs.Notes.{Noted, noted-none, noted-next}
+use Rattle.kinds.proofs.Sites.{Inside, pair-inside, few-nodes, node-is, node-inside}
 use Rattle.nodes.proofs.first_bad_node.Statement.{statement}
 use Rattle.nodes.proofs.first_bad_node.Tie as tie
 
+-- the sort of node i
+abbrev sort-at : Book → ℕ → ℕ
+sort-at b i = sort-of (node-at b i .kind)
+
 abbrev Inv-loop : tie.InvT-loop
-Inv-loop file regions nodes node₀ node = (node ≤ nodes .count) × NoneBelow (bad-node (decode file)) node
+Inv-loop file regions nodes table sorts₀ node₀ sorts node =
+    (node ≤ nodes .count) × NoneBelow (bad-node (decode file)) node × Noted (sort-at (decode file)) 0 sorts node
 
 abbrev μ-loop : tie.MeasureT-loop
-μ-loop file regions nodes node₀ node = nodes .count - node
+μ-loop file regions nodes table sorts₀ node₀ sorts node = nodes .count - node
 
 section-at-requires : tie.Need-section-at-requires Inv-loop μ-loop
 section-at-requires c κs = pair-inside _ (c .before .pre) 1 (lit< tt)
@@ -24,41 +35,93 @@ section-at-requires c κs = pair-inside _ (c .before .pre) 1 (lit< tt)
 section-at-requires-2 : tie.Need-section-at-requires-2 Inv-loop μ-loop
 section-at-requires-2 c κs = pair-inside _ (c .before .before .pre) 3 (lit< tt)
 
-loop-holds : tie.Need-loop-holds Inv-loop μ-loop
-loop-holds c = (omega arith, none-yet _)
+table-requires : tie.Need-table-requires Inv-loop μ-loop
+table-requires c κs = search needs
 
--- the node that is tested is there
-there : (c : tie.Then1 Inv-loop μ-loop) → c .before .before .loop .node < count (c .before .before .before .before .before .before .args .file .now) 3
+loop-holds : tie.Need-loop-holds Inv-loop μ-loop
+loop-holds c = (omega arith, none-yet _, noted-none refl)
+
+-- ---- the node that is tested
+
+abbrev start : tie.Then1 Inv-loop μ-loop → tie.Start Inv-loop μ-loop
+start c = c .before .before .before .before .before .before .before
+
+abbrev number : tie.Then1 Inv-loop μ-loop → ℕ
+number c = c .before .before .loop .node
+
+abbrev nodes : tie.Then1 Inv-loop μ-loop → Section
+nodes c = c .before .before .before .before .section-at2 .result
+
+-- it is there
+there : (c : tie.Then1 Inv-loop μ-loop) → number c < count (start c .args .file .now) 3
 there c =
-    let e = ap (λ (x : Section). x .count) (c .before .before .before .section-at2 .ensures) in
+    let e = ap (λ (x : Section). x .count) (c .before .before .before .before .section-at2 .ensures) in
     rw e at (c .if1 .taken)
+
+placed : (c : tie.Then1 Inv-loop μ-loop) → number c < 1024
+placed c = omega (arith, there c, few-nodes (start c .args .file .now) (start c .pre))
+
+-- its record lies in the file
+inside : (c : tie.Then1 Inv-loop μ-loop) → Inside (start c .args .file .now) (nodes c .start + 16 * number c) 16
+inside c = node-inside (start c .args .file .now) (nodes c) (number c) (start c .pre) (c .before .before .before .before .section-at2 .ensures) (there c)
+
+record-is : (c : tie.Then1 Inv-loop μ-loop) → node-at (decode (start c .args .file .now)) (number c) ≡ nodes-format .read (start c .args .file .now) (nodes c .start + 16 * number c)
+record-is c = node-is (start c .args .file .now) (nodes c) (number c) (c .before .before .before .before .section-at2 .ensures) (there c)
+
+mul-at : tie.Need-mul-at Inv-loop μ-loop
+mul-at c = omega (arith, inside c)
+
+add-at : tie.Need-add-at Inv-loop μ-loop
+add-at c = omega (arith, inside (c .before))
+
+shared-slice-read-row-of : tie.Need-shared-slice-read-row-of Inv-loop μ-loop
+shared-slice-read-row-of c = omega (arith, inside (c .before .before .before))
+
+row-of-requires : tie.Need-row-of-requires Inv-loop μ-loop
+row-of-requires c κs = c .before .before .before .before .before .before .table .ensures
 
 node-fits-requires : tie.Need-node-fits-requires Inv-loop μ-loop
 node-fits-requires c κs =
-    let s = c .before .before .before in
-    (s .before .before .before .pre, s .section-at2 .ensures, ap (λ (x : Section). x .count) (s .before .section-at .ensures), there c)
+    let t = c .before .before .before .before .before in
+    let s = start t .args .file .now in
+    let regions = ap (λ (x : Section). x .count) (t .before .before .before .before .before .section-at .ensures) ∙ sym (count-regions s) in
+    (record { inside = inside t .end; short = inside t .short; room = placed t; read = record-is t; row-is = c .before .row-of .ensures }, record { regions-are = regions; sorts-are = t .before .before .loop .inv .2 .right })
 
 returns : tie.Need-returns Inv-loop μ-loop
 returns c =
-    let t = c .before .before in
+    let t = c .before .before .before .before .before .before .before in
     sym (first-found _ _ _ (there t) (t .before .before .loop .inv .1) (ap not (sym (c .before .node-fits .ensures)) ∙ c .if2 .taken))
 
+abbrev test : tie.Else2 Inv-loop μ-loop → tie.Then1 Inv-loop μ-loop
+test c = c .before .before .before .before .before .before .before
+
+array-write-sorts : tie.Need-array-write-sorts Inv-loop μ-loop
+array-write-sorts c = placed (test c)
+
 add-node : tie.Need-add-node Inv-loop μ-loop
-add-node c = omega arith
+add-node c = omega (arith, placed (test c))
 
 loop-less : tie.Need-loop-less Inv-loop μ-loop
-loop-less c = omega arith
+loop-less c =
+    let t = test c in
+    omega (arith, t .if1 .taken)
+
+-- the sort that is noted
+sort-is : (c : tie.Else2 Inv-loop μ-loop) → c .before .before .before .row-of .result .sort ≡ sort-at (decode (start (test c) .args .file .now)) (number (test c))
+unfolding row-of nodes-format
+sort-is c = ap (λ (r : Row). r .sort) (c .before .before .before .row-of .ensures) ∙ ap (λ (x : NodeRecord). sort-of (x .kind)) (sym (record-is (test c)))
 
 loop-again : tie.Need-loop-again Inv-loop μ-loop
 loop-again c =
-    let l = c .before .before .before .before in
-    (omega arith, none-next _ _ (l .loop .inv .1) (ap not (sym (c .before .node-fits .ensures)) ∙ c .if2 .left))
+    let t = test c in
+    let l = t .before .before in
+    (omega (arith, t .if1 .taken), none-next _ _ (l .loop .inv .1) (ap not (sym (c .before .node-fits .ensures)) ∙ c .if2 .left), noted-next (placed t) (sort-is c) (l .loop .inv .2))
 
 returns-2 : tie.Need-returns-2 Inv-loop μ-loop
 returns-2 c =
     let l = c .before .before in
-    let e = ap (λ (x : Section). x .count) (l .before .section-at2 .ensures) in
-    let n : l .loop .node ≡ count (l .before .before .before .before .args .file .now) 3 = omega (arith, e) in
+    let e = ap (λ (x : Section). x .count) (l .before .before .section-at2 .ensures) in
+    let n : l .loop .node ≡ count (l .before .before .before .before .before .args .file .now) 3 = omega (arith, e) in
     n ∙ sym (first-none _ _ (rw n at (l .loop .inv .1)))
 
 pub first-bad-node-spec : {M : Type 1} → statement M
@@ -69,9 +132,15 @@ first-bad-node-spec =
     μ-loop
     section-at-requires
     section-at-requires-2
+    table-requires
     loop-holds
+    mul-at
+    add-at
+    shared-slice-read-row-of
+    row-of-requires
     node-fits-requires
     returns
+    array-write-sorts
     add-node
     loop-less
     loop-again
