@@ -1,2 +1,3 @@
 pub mod Notes
+pub mod Past
 pub mod Sites

@@ -3,17 +3,18 @@ use mathlib.Core.Path.{_≡_, refl, sym, ap, _∙_}
 use mathlib.Core.List.{List, [], _∷_}
 use mathlib.Core.Bool.{Bool, true, false, _||_, cond}
 use mathlib.Core.Option.{Option, none, some}
-use Prim.Native.Nat.{ℕ, suc, _+_, _-_, _*_, _≤_, _<_}
+use Prim.Native.Nat.{ℕ, suc, _+_, _-_, _*_, _/_, _%_, _^_, _≤_, _<_}
 use native.Mathlib.Decide.{ℕ-discrete}
 use native.Mathlib.Omega.{arith}
+use lib.Bits.{bitOr}
 use lib.Dec.{eqb}
 use lib.IntN.{ℤ, pos}
-use lib.ListN.{length, drop, set, replicate, drop-of-length-le}
-use lib.Seq.{drop-cons}
+use lib.ListN.{length, getD, drop, set, replicate, length-set, getD-replicate, drop-of-length-le}
+use lib.Seq.{drop-cons, ext-getD, getD-set-same, getD-set-other}
 use borrow.Author.Tests.{ne-eqb}
 use Rattle.places.specs.Sets.{set-of, single, union}
-use Rattle.places.proofs.Sets.{union-set-of}
-use Rattle.places.proofs.Shapes.{set-of-cong, set-of-none}
+use Rattle.places.proofs.Sets.{length-set-of, length-single, length-union, union-set-of, union-word}
+use Rattle.places.proofs.Shapes.{set-of-cong, set-of-none, single-word}
 use Rattle.book.specs.Bytes.{le32, signed32}
 use Rattle.book.specs.Records.{CellRecord, place-of, cells-format}
 use Rattle.book.specs.Layout.{count, section, decode}
@@ -82,6 +83,26 @@ pub record Loading (s : List ℕ) (start : ℕ) (amounts : List ℤ) (set : List
 pub loading-length : {s words : List ℕ} {amounts : List ℤ} {start cell : ℕ} → Loading s start amounts words cell → length amounts ≡ 512
 loading-length l = ap length (l .amounts-are) ∙ length-tabulate _ 512
 
+pub loading-words : {s words : List ℕ} {amounts : List ℤ} {start cell : ℕ} → Loading s start amounts words cell → length words ≡ 8
+loading-words l = ap length (l .set-is) ∙ length-set-of 8 _
+
+-- a set with the bit of one place set
+abbrev pub with-place : List ℕ → ℕ → List ℕ
+with-place words p = set words (p / 64) (bitOr (2 ^ (p % 64)) (getD words (p / 64) 0))
+
+with-union : (words : List ℕ) (p : ℕ) → p < 512 → length words ≡ 8 → with-place words p ≡ union (single 8 p) words
+with-union words p h e =
+    ext-getD 0 (with-place words p) (union (single 8 p) words) (length-set words _ _ ∙ e ∙ sym (length-union (single 8 p) words (length-single 8 p) e))
+    (λ w l. go w (omega (arith, length-set words (p / 64) (bitOr (2 ^ (p % 64)) (getD words (p / 64) 0)))) (ℕ-discrete w (p / 64)))
+  where
+    go : (w : ℕ) → w < 8 → Dec (w ≡ p / 64) → getD (with-place words p) w 0 ≡ getD (union (single 8 p) words) w 0
+    go w l (yes q) =
+        rw (union-word (single 8 p) words w, single-word 8 p (omega arith), q, getD-set-same {A = ℕ} (replicate 8 0) (p / 64) (2 ^ (p % 64)) 0 (omega arith))
+        (getD-set-same words (p / 64) _ 0 (omega arith))
+    go w l (no q) =
+        rw (union-word (single 8 p) words w, single-word 8 p (omega arith), getD-set-other {A = ℕ} (replicate 8 0) (p / 64) w (2 ^ (p % 64)) 0 q, getD-replicate {A = ℕ} 8 w 0 0 l)
+        (getD-set-other words (p / 64) w _ 0 q)
+
 module _ (s : List ℕ) (v : verdict s ≡ Accepted) where
   pub loading-none : {x : Section} → x ≡ section s 0 → {amounts : List ℤ} → amounts ≡ tabulate (λ p. pos 0) 512 → Loading s (x .start) amounts (replicate 8 0) (x .count)
   loading-none {x} e {amounts} a =
@@ -97,10 +118,10 @@ module _ (s : List ℕ) (v : verdict s ≡ Accepted) where
 
   pub loading-turn : {start cell : ℕ} {amounts : List ℤ} {words : List ℕ} → Loading s start amounts words cell → 0 < cell
       → let at : ℕ = start + (cell - 1) * 8 in
-      (place : ℕ) (amount : ℤ) (one words′ : List ℕ) → place ≡ place-of (cells-format .read s at) → amount ≡ signed32 (le32 s (at + 4))
-      → one ≡ single 8 place → words′ ≡ union one words → Loading s start (set amounts place amount) words′ (cell - 1)
+      (place : ℕ) (amount : ℤ) → place ≡ place-of (cells-format .read s at) → amount ≡ signed32 (le32 s (at + 4))
+      → place < 512 → Loading s start (set amounts place amount) (with-place words place) (cell - 1)
   unfolding cells-format
-  loading-turn {start} {cell} {amounts} {words} l h place amount one words′ p z o u =
+  loading-turn {start} {cell} {amounts} {words} l h place amount p z b =
       let i : ℕ = cell - 1 in
       let c : CellRecord = cells-format .read s (start + i * 8) in
       let n : suc i ≡ cell = omega arith in
@@ -111,7 +132,7 @@ module _ (s : List ℕ) (v : verdict s ≡ Accepted) where
         inside = l .inside;
         upto = omega (arith, l .upto);
         amounts-are = rw (l .amounts-are, p, z) (amounts-turn c (drop cell (decode s .cells)) ∙ ap amounts-of (sym more));
-        set-is = u ∙ rw (o, p, l .set-is) (presence-turn c (drop cell (decode s .cells)) ∙ ap presence-of (sym more));
+        set-is = with-union words place b (loading-words l) ∙ rw (p, l .set-is) (presence-turn c (drop cell (decode s .cells)) ∙ ap presence-of (sym more));
       }
 
   pub loading-done : {start cell : ℕ} {amounts : List ℤ} {words : List ℕ} → Loading s start amounts words cell → cell ≤ 0

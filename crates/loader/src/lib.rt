@@ -35,9 +35,7 @@ fn load_cells(file: &[u8], amounts: &mut [i32]) -> [u64; 8]
         let at = start + cell * 8;
         let place = book::place_at(file, at);
         amounts[place] = numbers::i32_at(file, at + 4);
-        let one = places::single(place);
-        let next = places::union(one, set);
-        set = next;
+        set[place / 64] = (1u64 << (place % 64)) | set[place / 64];
     }
     set
 }

@@ -1,23 +1,26 @@
 -- What a node reaches. In a book whose nodes are good, children have lower numbers. So the definition of `reaches` is about what is
--- reached from parent to child (`reaches-means`), and one pass over the nodes finds it for each of them (`flag-right`). Assumes nothing.
-use mathlib.Core.Path.{_≡_, refl, sym, _∙_}
-use mathlib.Core.Bool.{Bool, true, false, _&&_, _||_, not, cond, and-false, or-true, false≢true}
+-- reached from parent to child (`reaches-means`), and one pass over the nodes finds it for each of them (`flag-right`), where
+-- expressions are passed by (`expression-safe`). Assumes nothing.
+use mathlib.Core.Path.{_≡_, refl, sym, ap, _∙_}
+use mathlib.Core.Bool.{Bool, true, false, _&&_, _||_, not, or-true, false≢true}
 use mathlib.Core.List.{List}
 use Prim.Native.Nat.{ℕ, zero, suc, _≤_, _<_}
 use native.Mathlib.Nat.{not-suc-le-zero, lt-of-not-le}
 use native.Mathlib.Omega.{arith}
 use lib.ListN.{length, replicate, getD-replicate}
-use lib.Dec.{eqb, leb, ltb}
-use borrow.Author.Tests.{eq-eqb, eqb-true, lt-leb, ltb-true, not-true, not-false}
+use lib.Dec.{eqb, ltb}
+use borrow.Author.Tests.{eq-eqb, eqb-true, ltb-true, not-true, not-false}
 use Rattle.book.specs.Records.{NodeRecord, Book}
 use Rattle.book.specs.Layout.{count, decode}
 use Rattle.book.specs.Start.{tabulate}
-use Rattle.book.specs.Kinds.{no-kind, expression, command, constant, between, sort-of, Fields, fields-of}
+use Rattle.book.specs.Kinds.{no-kind, expression, command, constant, between, sort-of, Fields, fields-of, row-of}
+use Rattle.book.specs.declared.Row.{Row}
 use Rattle.book.specs.Refusals.{first, node-at, sorted, field-fits, is-zero, node-fits, bad-node, forbidden, child, reaches}
 use Rattle.book.proofs.First.{below-first}
 use Rattle.book.proofs.Decoded.{count-nodes}
 use Rattle.book.proofs.Chains.{or-pass, or-hold, both}
 use Rattle.book.proofs.Tabulate.{table-at}
+use Rattle.kinds.proofs.Past.{past}
 use Rattle.reaching.specs.Reaching.{names-child, roles, Child, in-a, in-b, in-c, in-d, Reaches, own, down, ReachesForbidden, GoodNodes, ReachesMeans}
 
 -- ---- the children of a good node have lower numbers
@@ -114,19 +117,6 @@ module _ (b : Book) where
 
 -- ---- an expression leads to expressions alone, and none of them is forbidden
 
--- the kinds of expression come before those of command
-module _ (kind : ℕ) where
-  outside : (low high : ℕ) → high < kind → between low high kind ≡ false
-  outside low high h = rw (lt-leb kind high h) (and-false (leb low kind))
-
-  other-sort : (t : Bool) → cond t command no-kind ≡ expression → ⊥
-  other-sort true e = omega arith
-  other-sort false e = omega arith
-
-  expressions-low : sort-of kind ≡ expression → kind < 12
-  unfolding sort-of
-  expressions-low e = lt-of-not-le (λ (h : 12 ≤ kind). other-sort (between 16 26 kind) (rw (outside 1 6 (omega arith), outside 8 11 (omega arith)) at e))
-
 -- a field in this role names no child, or an expression
 abbrev mild : ℕ → Bool
 mild role = not (names-child role) || eqb role expression
@@ -137,10 +127,19 @@ harmless kind =
     not (eqb (sort-of kind) expression)
     || (not (forbidden kind) && (mild (fields-of kind .a) && (mild (fields-of kind .b) && (mild (fields-of kind .c) && mild (fields-of kind .d)))))
 
--- tested once, over the kinds of expression
-tested : (kind : ℕ) → kind < 12 → harmless kind ≡ true
+-- tested once, over the whole table
+tested : (kind : ℕ) → kind < 27 → harmless kind ≡ true
 unfolding harmless tabulate sort-of fields-of forbidden
-tested kind h = sym (table-at harmless 12 (replicate 12 true) refl kind true h) ∙ getD-replicate 12 kind true true h
+tested kind h = sym (table-at harmless 27 (replicate 27 true) refl kind true h) ∙ getD-replicate 27 kind true true h
+
+-- an expression's kind is in the table
+in-table : (kind : ℕ) → sort-of kind ≡ expression → kind < 27
+unfolding row-of sort-of
+in-table kind e =
+    lt-of-not-le
+    (λ (h : 27 ≤ kind).
+    let z : _≡_ {A = ℕ} 0 1 = sym (ap (λ (r : Row). r .sort) (past kind h)) ∙ e in
+    omega arith)
 
 parts : (kind a b c d : Bool) → not kind && (a && (b && (c && d))) ≡ true → (kind ≡ false) × (a ≡ true) × (b ≡ true) × (c ≡ true) × (d ≡ true)
 parts kind a b c d e =
@@ -171,7 +170,7 @@ module _ (b : Book) (nodes : GoodNodes b) where
       let u : Fields = roles b i in
       let good = good-fields b i (nodes .good i h) in
       let none = no-child (reaches b n) i (λ v l q. expression-safe n v (omega arith) q) in
-      let p = parts (forbidden kind) (mild (u .a)) (mild (u .b)) (mild (u .c)) (mild (u .d)) (rw (eq-eqb _ _ e) at (tested kind (expressions-low kind e))) in
+      let p = parts (forbidden kind) (mild (u .a)) (mild (u .b)) (mild (u .c)) (mild (u .d)) (rw (eq-eqb _ _ e) at (tested kind (in-table kind e))) in
       or-pass (p .0)
       (or-pass (none _ _ (p .1) (good .0)) (or-pass (none _ _ (p .2) (good .1)) (or-pass (none _ _ (p .3) (good .2)) (none _ _ (p .4) (good .3)))))
 

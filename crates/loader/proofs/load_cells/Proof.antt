@@ -1,6 +1,7 @@
 -- `loader::load_cells` meets its contract: the records from `cell` on are loaded.
 use mathlib.Core.Path.{_∙_}
-use Prim.Native.Nat.{ℕ, _-_, _<_}
+use Prim.Native.Nat.{ℕ, _-_, _%_, _<_}
+use lib.Pow.{shl-exact}
 use lib.Dec.{lit<}
 use mir.Syntax.{w32}
 use mir.ValLaws.{toZ-ofZ}
@@ -9,6 +10,7 @@ use Rattle.book.proofs.Accepted.{placed}
 use Rattle.loader.proofs.Accepted.{place-inside}
 use Rattle.loader.proofs.Loads.{Loading, loading-none, loading-length, loading-turn, loading-done}
 use borrow.Author.Needs.{needs}
+use native.Mathlib.Nat.{one-mul}
 use native.Mathlib.Omega.{arith}
 use Rattle.loader.proofs.load_cells.Statement.{statement}
 use Rattle.loader.proofs.load_cells.Tie as tie
@@ -60,32 +62,41 @@ in-range c =
     let lt : i < count (s .args .file .now) 0 = omega (arith, l .loop .inv .upto, c .before .before .loop-test .taken) in
     rw (c .before .place-at .ensures .0, l .loop .inv .starts) (place-inside (s .args .file .now) (s .pre .0) i lt)
 
-mul-t17 : tie.Need-mul-t17 Inv-loop μ-loop
-mul-t17 c = omega (arith, in-range c)
+mul-t15 : tie.Need-mul-t15 Inv-loop μ-loop
+mul-t15 c = omega (arith, in-range c)
 
 slice-set-from-amounts : tie.Need-slice-set-from-amounts Inv-loop μ-loop
 slice-set-from-amounts c = omega (arith, in-range c, loading-length (c .before .before .before .loop .inv))
 
-single-requires : tie.Need-single-requires Inv-loop μ-loop
-single-requires c κs = in-range c
+shl-set : tie.Need-shl-set Inv-loop μ-loop
+shl-set c = search needs
 
-union-requires : tie.Need-union-requires Inv-loop μ-loop
-union-requires c κs = search needs
+mul-set : tie.Need-mul-set Inv-loop μ-loop
+mul-set c = omega (arith, in-range c)
+
+array-read-set : tie.Need-array-read-set Inv-loop μ-loop
+array-read-set c = omega (arith, in-range c)
+
+mul-set-2 : tie.Need-mul-set-2 Inv-loop μ-loop
+mul-set-2 c = omega (arith, in-range c)
+
+array-write-set : tie.Need-array-write-set Inv-loop μ-loop
+array-write-set c = omega (arith, in-range c)
 
 loop-less : tie.Need-loop-less Inv-loop μ-loop
 loop-less c = omega arith
 
 loop-again : tie.Need-loop-again Inv-loop μ-loop
 loop-again c =
-    let l = c .before .before .before .before .before in
+    let l = c .before .before .before in
     let s = l .before .before .before .before .before .before in
-    let read = c .before .before .i32-at in
-    let left : 0 < l .loop .cell = omega (arith, c .before .before .before .before .loop-test .taken) in
-    loading-turn (s .args .file .now) (s .pre .0) (l .loop .inv) left _ _ _ _
-    (c .before .before .before .place-at .ensures .0)
-    (toZ-ofZ w32 (read .result) (record { sfits = read .ok }) ∙ read .ensures)
-    (c .before .single .ensures)
-    (c .union .ensures)
+    let p : ℕ = c .before .place-at .result in
+    let left : 0 < l .loop .cell = omega (arith, c .before .before .loop-test .taken) in
+    rw (shl-exact 1 (p % 64) 64 (lit< tt) (omega arith), one-mul)
+    (loading-turn (s .args .file .now) (s .pre .0) (l .loop .inv) left _ _
+    (c .before .place-at .ensures .0)
+    (toZ-ofZ w32 (c .i32-at .result) (record { sfits = c .i32-at .ok }) ∙ c .i32-at .ensures)
+    (in-range c))
 
 same-length : tie.Need-same-length Inv-loop μ-loop
 same-length c =
@@ -112,10 +123,13 @@ load-cells-spec =
     place-at-requires
     add-i32-at
     i32-at-requires
-    mul-t17
+    mul-t15
     slice-set-from-amounts
-    single-requires
-    union-requires
+    shl-set
+    mul-set
+    array-read-set
+    mul-set-2
+    array-write-set
     loop-less
     loop-again
     same-length
