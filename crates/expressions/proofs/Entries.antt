@@ -6,9 +6,12 @@ use Prim.Native.Nat.{ℕ, _+_, _-_, _*_, _≤_, _<_}
 use native.Mathlib.Decide.{ℕ-discrete}
 use native.Mathlib.Omega.{arith}
 use lib.IntN.{ℤ, pos}
-use lib.ListN.{getD}
+use lib.ListN.{length, getD, length-replicate}
 use borrow.Author.Tests.{le-leb, lt-leb}
+use Rattle.places.specs.Sets.{union}
+use Rattle.places.proofs.Sets.{union-empty}
 use Rattle.labels.specs.Labels.{label-at}
+use Rattle.labels.proofs.Labels.{length-label}
 use Rattle.book.specs.Bytes.{byte, le16, le32, signed32}
 use Rattle.book.specs.Layout.{decode}
 use Rattle.book.specs.Kinds.{expression, between, cost-of, sort-of}
@@ -17,12 +20,13 @@ use Rattle.monitor.specs.Labelled.{Label, bottom, Lab}
 use Rattle.monitor.specs.Run.{Cell}
 use Rattle.machine.specs.Ready.{script-of, Ready, Node}
 use Rattle.machine.specs.Store.{vars-of}
-use Rattle.machine.specs.Promises.{Gives, Evaluates, Expresses}
+use Rattle.machine.specs.Promises.{Evaluates, Expresses}
 use Rattle.machine.specs.declared.Value.the-variants.{Known, Stopped}
-use Rattle.machine.specs.declared.Valued.{Valued}
 use Rattle.machine.proofs.Nodes.{script-node, Read, read-at, Child, kind-below, cost-read, variable-p, pair-a, pair-b, query-p, query-a, query-b, query-c, query-d}
-use Rattle.expressions.proofs.Steps.{valued, paid, unpaid}
-use Rattle.expressions.proofs.Parts.{constant-gives, variable-gives}
+use Rattle.expressions.specs.Joins.{Joins}
+use Rattle.expressions.specs.declared.Evaluated.{Evaluated}
+use Rattle.expressions.proofs.Steps.{valued, evaluated, paid, unpaid}
+use Rattle.expressions.proofs.Parts.{stop-joins, constant-gives, variable-gives}
 
 -- no entry is free, so that fuel lasts
 cost-least : (kind : ℕ) → 1 ≤ cost-of kind
@@ -69,29 +73,45 @@ module _ {file : List ℕ} {nodes : ℕ} {costs : List ℕ} {n : ℕ} (ready : R
   abbrev cost : ℕ
   cost = getD costs (byte file (nodes + 16 * n)) 0
 
-  module _ (cells : ℕ → Lab Cell) (vars : ℕ → Lab ℤ) (left : ℕ) where
+  module _ (cells : ℕ → Lab Cell) (vars : ℕ → Lab ℤ) (left : ℕ) {before after : Label} where
     -- 21: the cost in the table would pass the budget
-    pub stops-21 : left < cost → (label : Label) → Gives (Evaluates file n) cells vars left (valued (Stopped 21 n) left label)
-    stops-21 h label = unpaid cells vars (script-of file) n left cost cost-is h label
+    pub stops-21 : left < cost → Joins (Evaluates file n) cells vars left before (evaluated (Stopped 21 n) left) after
+    stops-21 h = stop-joins (length-replicate {A = ℕ} 8 0) (unpaid cells vars (script-of file) n left cost cost-is h bottom) refl
 
     -- the cost is taken off the budget, and the node's kind says the rest
-    pub pays : cost ≤ left → {r : Valued} → Gives (Expresses file n) cells vars (left - cost) r → Gives (Evaluates file n) cells vars left r
-    pays h {r} g = paid cells vars (script-of file) n left cost cost-is (rw (sym cost-is) (cost-least _)) h r g
+    pub pays : cost ≤ left → {r : Evaluated} → Joins (Expresses file n) cells vars (left - cost) before r after → Joins (Evaluates file n) cells vars left before r after
+    pays h {r} g = record {
+      label = g .label;
+      eight = g .eight;
+      gives = paid cells vars (script-of file) n left cost cost-is (rw (sym cost-is) (cost-least _)) h (valued (r .answer) (r .left) (g .label)) (g .gives);
+      joined = g .joined;
+    }
 
-    -- 1 constant k, as it was read
-    pub reads-constant : byte file (nodes + 16 * n) ≡ 1 → (z : ℤ) → z ≡ signed32 (le32 file (nodes + 16 * n + 10))
-        → Gives (Expresses file n) cells vars left (valued (Known z) left bottom)
-    reads-constant e z q = rw (q ∙ read .k) (constant-gives file n cells vars left (sym (read .kind) ∙ e))
+  -- 1 constant k, as it was read
+  pub reads-constant : (cells : ℕ → Lab Cell) (vars : ℕ → Lab ℤ) (left : ℕ) {lent : Label}
+      → byte file (nodes + 16 * n) ≡ 1 → (z : ℤ) → z ≡ signed32 (le32 file (nodes + 16 * n + 10))
+      → Joins (Expresses file n) cells vars left lent (evaluated (Known z) left) lent
+  reads-constant cells vars left {lent} e z q = record {
+    label = bottom;
+    eight = length-replicate {A = ℕ} 8 0;
+    gives = rw (q ∙ read .k) (constant-gives file n cells vars left (sym (read .kind) ∙ e));
+    joined = λ l _. sym (union-empty lent l);
+  }
 
   -- 2 variable p, as it was read
   module _ (e : byte file (nodes + 16 * n) ≡ 2) {p : ℕ} (p-is : p ≡ byte file (nodes + 16 * n + 1)) where
     pub variable-inside : p < 16
     variable-inside = rw (p-is ∙ read .p) (variable-p file (ready .accepted) n (node .inside) (sym (read .kind) ∙ e))
 
-    pub reads-variable : (cells : ℕ → Lab Cell) (vars : List ℤ) (tags : List ℕ) (left : ℕ)
-        → Gives (Expresses file n) cells (vars-of vars tags) left (valued (Known (getD vars p (pos 0))) left (label-at tags p))
+    pub reads-variable : (cells : ℕ → Lab Cell) (vars : List ℤ) (tags : List ℕ) (left : ℕ) {lent : Label} → length tags ≡ 128
+        → Joins (Expresses file n) cells (vars-of vars tags) left lent (evaluated (Known (getD vars p (pos 0))) left) (union lent (label-at tags p))
     unfolding vars-of
-    reads-variable cells vars tags left = rw (p-is ∙ read .p) (variable-gives file n cells (vars-of vars tags) left (sym (read .kind) ∙ e))
+    reads-variable cells vars tags left l = record {
+      label = label-at tags p;
+      eight = length-label tags p (omega (arith, variable-inside));
+      gives = rw (p-is ∙ read .p) (variable-gives file n cells (vars-of vars tags) left (sym (read .kind) ∙ e));
+      joined = λ _ _. refl;
+    }
 
   -- the parts of the others, by the numbers that were read
   child-of : {m v : ℕ} → v ≡ m → Child expression file n m → Child expression file n v

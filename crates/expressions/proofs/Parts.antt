@@ -1,5 +1,5 @@
 -- What a node of each kind of expression gives, once its own cost is paid, from what its parts give. Assumes nothing.
-use mathlib.Core.Path.{_≡_, _∙_, subst}
+use mathlib.Core.Path.{_≡_, refl, ap, _∙_, subst}
 use mathlib.Core.List.{List}
 use mathlib.Core.Bool.{true}
 use Prim.Native.Nat.{ℕ, _*_, _≤_}
@@ -8,28 +8,33 @@ use native.Mathlib.Decide.{ℕ-discrete}
 use native.Mathlib.Omega.{arith}
 use lib.Dec.{leb}
 use lib.IntN.{ℤ}
+use lib.ListN.{length, length-replicate}
 use borrow.Author.Tests.{leb-true, ne-eqb}
 use Rattle.places.specs.Sets.{union}
+use Rattle.places.proofs.Sets.{length-union, union-assoc, empty-union}
 use Rattle.book.specs.Records.{NodeRecord}
 use Rattle.book.specs.Layout.{decode}
 use Rattle.book.specs.Kinds.{between}
 use Rattle.book.specs.Refusals.{node-at}
 use Rattle.book.proofs.Chains.{both}
-use Rattle.monitor.specs.Labelled.{bottom, Lab, lit, lift, lift2, via}
-use Rattle.monitor.specs.Run.{Cell, M, next, _>>=_, look}
+use Rattle.monitor.specs.Labelled.{Label, bottom, Lab, lit, lift, lift2, via}
+use Rattle.monitor.specs.Run.{Cell, State, M, next, _>>=_, look}
 use Rattle.monitor.specs.Syntax.{exp-of}
 use Rattle.monitor.specs.Rules.{from-to, box-of, in-box, gather, seen, aggregate, ranged, expr, eval}
 use Rattle.monitor.specs.Call.{script}
 use Rattle.machine.specs.Ready.{script-of}
 use Rattle.machine.specs.Promises.{Gives, Evaluates, Expresses, given}
+use Rattle.machine.specs.declared.Value.{Value}
 use Rattle.machine.specs.declared.Value.the-variants.{Known, Stopped}
 use Rattle.machine.specs.declared.Valued.{Valued}
 use Rattle.machine.proofs.Nodes.{script-node}
 use Rattle.queries.specs.declared.Found.{Found}
 use Rattle.queries.specs.Found.{box, found-in}
 use Rattle.expressions.specs.Values.{held-to-32, combine}
+use Rattle.expressions.specs.Joins.{Joins}
+use Rattle.expressions.specs.declared.Evaluated.{Evaluated}
 use Rattle.machine.proofs.Runs.{after-none}
-use Rattle.expressions.proofs.Steps.{valued, gives-as, stops-at, goes-on, ranged-gives}
+use Rattle.expressions.proofs.Steps.{valued, evaluated, gives-as, stops-at, goes-on, ranged-gives}
 
 -- the rest of a pair after its parts, and after its first part
 abbrev combining : NodeRecord → ℕ → Lab ℤ → Lab ℤ → M (Lab ℤ)
@@ -88,9 +93,41 @@ aggregating-gives cells vars x n left t u v w e =
       within = g .within;
     })
 
--- a value with the label of the answer that told it
-abbrev labelled : ℤ → Valued → Lab ℤ
-labelled z r = record { val = z; lab = r .label }
+abbrev labelled : ℤ → Label → Lab ℤ
+labelled z label = record { val = z; lab = label }
+
+-- the lent label keeps its eight words
+joined-eight : {m : ℕ → M (Lab ℤ)} {cells : ℕ → Lab Cell} {vars : ℕ → Lab ℤ} {left : ℕ} {before : Label} {r : Evaluated} {after : Label} {z : ℤ}
+    → Joins m cells vars left before r after → length before ≡ 8 → r .answer ≡ Known z → length after ≡ 8
+joined-eight j l q = ap length (j .joined l q) ∙ length-union _ _ l (j .eight)
+
+-- a stop passed upward: whatever became of the lent label, no value is known
+pub stop-joins : {m : ℕ → M (Lab ℤ)} {cells : ℕ → Lab Cell} {vars : ℕ → Lab ℤ} {left : ℕ} {before label : Label} {r : Evaluated} {after : Label} {number at : ℕ}
+    → length label ≡ 8 → Gives m cells vars left (valued (r .answer) (r .left) label) → r .answer ≡ Stopped number at → Joins m cells vars left before r after
+stop-joins {r = r} e g q = record {
+  label = _;
+  eight = e;
+  gives = g;
+  joined = λ _ k.
+      let never : _≡_ {A = ℕ} 0 1 = cc (q, k) in
+      absurd (omega arith);
+}
+
+-- joined to the empty label, the lent one is the expression's own
+stop-same : (v : Value) {number node : ℕ} (l l' : Label) (s : State) → v ≡ Stopped number node → given v l s ≡ given v l' s
+unfolding given
+stop-same v l l' s q = rw q
+
+pub joins-bottom : {m : ℕ → M (Lab ℤ)} {cells : ℕ → Lab Cell} {vars : ℕ → Lab ℤ} {left : ℕ} {r : Evaluated} {after : Label}
+    → Joins m cells vars left bottom r after → Gives m cells vars left (valued (r .answer) (r .left) after)
+joins-bottom {m} {cells} {vars} {left} {r} {after} j = go (r .answer) refl
+  where
+    go : (v : Value) → r .answer ≡ v → Gives m cells vars left (valued (r .answer) (r .left) after)
+    go (Known z) q = rw (j .joined (length-replicate {A = ℕ} 8 0) q ∙ empty-union (j .label) (j .eight)) (j .gives)
+    go (Stopped number node) q = record {
+      is = λ fuel h rights room. j .gives .is fuel h rights room ∙ stop-same (r .answer) (j .label) after _ q;
+      within = j .gives .within;
+    }
 
 module _ (file : List ℕ) (n : ℕ) where
   abbrev x : NodeRecord
@@ -121,51 +158,75 @@ module _ (file : List ℕ) (n : ℕ) where
     part {l = l} {r = r} q g = subst (λ (m : ℕ). Gives (Evaluates file m) cells vars l r) q g
 
     -- 3 to 6: the first part, and then the second with what it leaves
-    module _ (e : between 3 6 (x .kind) ≡ true) {a : ℕ} (a-is : a ≡ x .a) {first : Valued} (f : Gives (Evaluates file a) cells vars left first) where
-      pub pair-first-stops : {number at : ℕ} → first .answer ≡ Stopped number at → Gives (Expresses file n) cells vars left first
-      pair-first-stops q = gives-as (as-pair e) (stops-at (λ fuel. second-part (ev fuel) x n) (part a-is f) q)
+    module _ (e : between 3 6 (x .kind) ≡ true) {l₀ l₁ : Label} {a : ℕ} (a-is : a ≡ x .a) {first : Evaluated} (f : Joins (Evaluates file a) cells vars left l₀ first l₁) where
+      pub pair-first-stops : {number at : ℕ} → first .answer ≡ Stopped number at → Joins (Expresses file n) cells vars left l₀ first l₁
+      pair-first-stops q = stop-joins (f .eight) (gives-as (as-pair e) (stops-at (λ fuel. second-part (ev fuel) x n) (part a-is (f .gives)) q)) q
 
-      module _ {y : ℤ} (qy : first .answer ≡ Known y) {b : ℕ} (b-is : b ≡ x .b) {second : Valued} (g : Gives (Evaluates file b) cells vars (first .left) second) where
-        after-first : {r : Valued} → Gives (λ fuel. second-part (ev fuel) x n (labelled y first)) cells vars (first .left) r → Gives (Expresses file n) cells vars left r
-        after-first rest = gives-as (as-pair e) (goes-on (λ fuel. second-part (ev fuel) x n) y (part a-is f) qy rest)
+      module _ {y : ℤ} (qy : first .answer ≡ Known y) {l₂ : Label} {b : ℕ} (b-is : b ≡ x .b) {second : Evaluated} (g : Joins (Evaluates file b) cells vars (first .left) l₁ second l₂) where
+        after-first : {r : Valued} → Gives (λ fuel. second-part (ev fuel) x n (labelled y (f .label))) cells vars (first .left) r → Gives (Expresses file n) cells vars left r
+        after-first rest = gives-as (as-pair e) (goes-on (λ fuel. second-part (ev fuel) x n) y (part a-is (f .gives)) qy rest)
 
-        pub pair-second-stops : {number at : ℕ} → second .answer ≡ Stopped number at → Gives (Expresses file n) cells vars left second
-        pair-second-stops q = after-first (stops-at (λ fuel. combining x n (labelled y first)) (part b-is g) q)
+        pub pair-second-stops : {number at : ℕ} → second .answer ≡ Stopped number at → Joins (Expresses file n) cells vars left l₀ second l₂
+        pair-second-stops q = stop-joins (g .eight) (after-first (stops-at (λ fuel. combining x n (labelled y (f .label))) (part b-is (g .gives)) q)) q
 
         pub pair-combines : {z : ℤ} → second .answer ≡ Known z
-            → Gives (Expresses file n) cells vars left (valued (held-to-32 (combine (x .kind) y z) n) (second .left) (union (first .label) (second .label)))
+            → Joins (Expresses file n) cells vars left l₀ (evaluated (held-to-32 (combine (x .kind) y z) n) (second .left)) l₂
         unfolding lift2
-        pair-combines {z} q =
-            after-first (goes-on (λ fuel. combining x n (labelled y first)) z (part b-is g) q (ranged-gives cells vars n (second .left) (lift2 (combine (x .kind)) (labelled y first) (labelled z second))))
+        pair-combines {z} q = record {
+          label = union (f .label) (g .label);
+          eight = length-union _ _ (f .eight) (g .eight);
+          gives = after-first (goes-on (λ fuel. combining x n (labelled y (f .label))) z (part b-is (g .gives)) q (ranged-gives cells vars n (second .left) (lift2 (combine (x .kind)) (labelled y (f .label)) (labelled z (g .label)))));
+          joined = λ l _.
+              g .joined (joined-eight f l qy) q ∙ rw (f .joined l qy) (union-assoc l₀ (f .label) (g .label));
+        }
 
     -- 8 to 11: the four bounds in turn
-    module _ (e : between 8 11 (x .kind) ≡ true) {a : ℕ} (a-is : a ≡ x .a) {first : Valued} (f : Gives (Evaluates file a) cells vars left first) where
-      pub query-first-stops : {number at : ℕ} → first .answer ≡ Stopped number at → Gives (Expresses file n) cells vars left first
-      query-first-stops q = gives-as (as-query e) (stops-at (λ fuel. second-bound (ev fuel) x n) (part a-is f) q)
+    module _ (e : between 8 11 (x .kind) ≡ true) {l₀ l₁ : Label} {a : ℕ} (a-is : a ≡ x .a) {first : Evaluated} (f : Joins (Evaluates file a) cells vars left l₀ first l₁) where
+      pub query-first-stops : {number at : ℕ} → first .answer ≡ Stopped number at → Joins (Expresses file n) cells vars left l₀ first l₁
+      query-first-stops q = stop-joins (f .eight) (gives-as (as-query e) (stops-at (λ fuel. second-bound (ev fuel) x n) (part a-is (f .gives)) q)) q
 
-      module _ {y₁ : ℤ} (q₁ : first .answer ≡ Known y₁) {b : ℕ} (b-is : b ≡ x .b) {second : Valued} (g : Gives (Evaluates file b) cells vars (first .left) second) where
-        after-one : {r : Valued} → Gives (λ fuel. second-bound (ev fuel) x n (labelled y₁ first)) cells vars (first .left) r → Gives (Expresses file n) cells vars left r
-        after-one rest = gives-as (as-query e) (goes-on (λ fuel. second-bound (ev fuel) x n) y₁ (part a-is f) q₁ rest)
+      module _ {y₁ : ℤ} (q₁ : first .answer ≡ Known y₁) {l₂ : Label} {b : ℕ} (b-is : b ≡ x .b) {second : Evaluated} (g : Joins (Evaluates file b) cells vars (first .left) l₁ second l₂) where
+        abbrev one : Lab ℤ
+        one = labelled y₁ (f .label)
 
-        pub query-second-stops : {number at : ℕ} → second .answer ≡ Stopped number at → Gives (Expresses file n) cells vars left second
-        query-second-stops q = after-one (stops-at (λ fuel. third-bound (ev fuel) x n (labelled y₁ first)) (part b-is g) q)
+        after-one : {r : Valued} → Gives (λ fuel. second-bound (ev fuel) x n one) cells vars (first .left) r → Gives (Expresses file n) cells vars left r
+        after-one rest = gives-as (as-query e) (goes-on (λ fuel. second-bound (ev fuel) x n) y₁ (part a-is (f .gives)) q₁ rest)
 
-        module _ {y₂ : ℤ} (q₂ : second .answer ≡ Known y₂) {c : ℕ} (c-is : c ≡ x .c) {third : Valued} (h : Gives (Evaluates file c) cells vars (second .left) third) where
-          after-two : {r : Valued} → Gives (λ fuel. third-bound (ev fuel) x n (labelled y₁ first) (labelled y₂ second)) cells vars (second .left) r → Gives (Expresses file n) cells vars left r
-          after-two rest = after-one (goes-on (λ fuel. third-bound (ev fuel) x n (labelled y₁ first)) y₂ (part b-is g) q₂ rest)
+        pub query-second-stops : {number at : ℕ} → second .answer ≡ Stopped number at → Joins (Expresses file n) cells vars left l₀ second l₂
+        query-second-stops q = stop-joins (g .eight) (after-one (stops-at (λ fuel. third-bound (ev fuel) x n one) (part b-is (g .gives)) q)) q
 
-          pub query-third-stops : {number at : ℕ} → third .answer ≡ Stopped number at → Gives (Expresses file n) cells vars left third
-          query-third-stops q = after-two (stops-at (λ fuel. fourth-bound (ev fuel) x n (labelled y₁ first) (labelled y₂ second)) (part c-is h) q)
+        module _ {y₂ : ℤ} (q₂ : second .answer ≡ Known y₂) {l₃ : Label} {c : ℕ} (c-is : c ≡ x .c) {third : Evaluated} (h : Joins (Evaluates file c) cells vars (second .left) l₂ third l₃) where
+          abbrev two : Lab ℤ
+          two = labelled y₂ (g .label)
 
-          module _ {y₃ : ℤ} (q₃ : third .answer ≡ Known y₃) {d : ℕ} (d-is : d ≡ x .d) {fourth : Valued} (k : Gives (Evaluates file d) cells vars (third .left) fourth) where
-            after-three : {r : Valued} → Gives (λ fuel. fourth-bound (ev fuel) x n (labelled y₁ first) (labelled y₂ second) (labelled y₃ third)) cells vars (third .left) r → Gives (Expresses file n) cells vars left r
-            after-three rest = after-two (goes-on (λ fuel. fourth-bound (ev fuel) x n (labelled y₁ first) (labelled y₂ second)) y₃ (part c-is h) q₃ rest)
+          after-two : {r : Valued} → Gives (λ fuel. third-bound (ev fuel) x n one two) cells vars (second .left) r → Gives (Expresses file n) cells vars left r
+          after-two rest = after-one (goes-on (λ fuel. third-bound (ev fuel) x n one) y₂ (part b-is (g .gives)) q₂ rest)
 
-            pub query-fourth-stops : {number at : ℕ} → fourth .answer ≡ Stopped number at → Gives (Expresses file n) cells vars left fourth
-            query-fourth-stops q = after-three (stops-at (λ fuel. aggregating x n (labelled y₁ first) (labelled y₂ second) (labelled y₃ third)) (part d-is k) q)
+          pub query-third-stops : {number at : ℕ} → third .answer ≡ Stopped number at → Joins (Expresses file n) cells vars left l₀ third l₃
+          query-third-stops q = stop-joins (h .eight) (after-two (stops-at (λ fuel. fourth-bound (ev fuel) x n one two) (part c-is (h .gives)) q)) q
+
+          module _ {y₃ : ℤ} (q₃ : third .answer ≡ Known y₃) {l₄ : Label} {d : ℕ} (d-is : d ≡ x .d) {fourth : Evaluated} (k : Joins (Evaluates file d) cells vars (third .left) l₃ fourth l₄) where
+            abbrev three : Lab ℤ
+            three = labelled y₃ (h .label)
+
+            after-three : {r : Valued} → Gives (λ fuel. fourth-bound (ev fuel) x n one two three) cells vars (third .left) r → Gives (Expresses file n) cells vars left r
+            after-three rest = after-two (goes-on (λ fuel. fourth-bound (ev fuel) x n one two) y₃ (part c-is (h .gives)) q₃ rest)
+
+            pub query-fourth-stops : {number at : ℕ} → fourth .answer ≡ Stopped number at → Joins (Expresses file n) cells vars left l₀ fourth l₄
+            query-fourth-stops q = stop-joins (k .eight) (after-three (stops-at (λ fuel. aggregating x n one two three) (part d-is (k .gives)) q)) q
 
             pub query-aggregates : {y₄ : ℤ} → fourth .answer ≡ Known y₄ → {found : Found} → found ≡ found-in (x .kind) cells (box y₁ y₂ y₃ y₄) (x .p)
-                → Gives (Expresses file n) cells vars left
-                (valued (held-to-32 (found .value) n) (fourth .left) (union (union (union (first .label) (second .label)) (union (third .label) (fourth .label))) (found .label)))
-            query-aggregates {y₄} q₄ is =
-                after-three (goes-on (λ fuel. aggregating x n (labelled y₁ first) (labelled y₂ second) (labelled y₃ third)) y₄ (part d-is k) q₄ (aggregating-gives cells vars x n (fourth .left) (labelled y₁ first) (labelled y₂ second) (labelled y₃ third) (labelled y₄ fourth) is))
+                → length (found .label) ≡ 8
+                → Joins (Expresses file n) cells vars left l₀ (evaluated (held-to-32 (found .value) n) (fourth .left)) (union l₄ (found .label))
+            query-aggregates {y₄} q₄ {found} is e₅ =
+                let four : Lab ℤ = labelled y₄ (k .label) in
+                record {
+                  label = union (union (union (f .label) (g .label)) (union (h .label) (k .label))) (found .label);
+                  eight = length-union _ _ (length-union _ _ (length-union _ _ (f .eight) (g .eight)) (length-union _ _ (h .eight) (k .eight))) e₅;
+                  gives = after-three (goes-on (λ fuel. aggregating x n one two three) y₄ (part d-is (k .gives)) q₄ (aggregating-gives cells vars x n (fourth .left) one two three four is));
+                  joined = λ l _.
+                      let e₁ = joined-eight f l q₁ in
+                      let e₂ = joined-eight g e₁ q₂ in
+                      let e₃ = joined-eight h e₂ q₃ in
+                      rw (k .joined e₃ q₄, h .joined e₂ q₃, g .joined e₁ q₂, f .joined l q₁) (simp union-assoc);
+                }

@@ -19,9 +19,13 @@ use Rattle.machine.specs.declared.Value.the-variants.{Known, Stopped}
 use Rattle.machine.specs.declared.Valued.{Valued}
 use Rattle.machine.proofs.Runs.{pay-passes, pay-fails, after-none, next-known}
 use Rattle.expressions.specs.Values.{held-to-32}
+use Rattle.expressions.specs.declared.Evaluated.{Evaluated}
 
 abbrev pub valued : Value → ℕ → Label → Valued
 valued answer left label = record { answer = answer; left = left; label = label }
+
+abbrev pub evaluated : Value → ℕ → Evaluated
+evaluated answer left = record { answer = answer; left = left }
 
 abbrev standing : (ℕ → Lab Cell) → (ℕ → Lab ℤ) → ℕ → Rights → ℕ → State
 standing cells vars left rights room = record { cells = cells; vars = vars; rights = rights; left = left; room = room }

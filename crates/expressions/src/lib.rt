@@ -1,4 +1,4 @@
-// Expressions: evaluated by recursion over node number and what is left of the budget.
+// Expressions: evaluated by recursion over node number. Labels are joined to one that is lent, so that none is copied on the way up.
 use machine::Value;
 use machine::Valued;
 ghost use mathlib.Core.Path.{_≡_};
@@ -11,7 +11,14 @@ ghost use Rattle.monitor.specs.Call.{cells-of};
 ghost use Rattle.machine.specs.Ready.{Ready, Node};
 ghost use Rattle.machine.specs.Store.{vars-of};
 ghost use Rattle.machine.specs.Promises.{Gives, Evaluates, Expresses};
+ghost use Rattle.expressions.specs.Joins.{Joins};
 ghost use Rattle.expressions.specs.Values.{held-to-32, combine};
+
+// An expression that was evaluated: its value or its stop, and what is left of the budget. Its label went into the lent one.
+struct Evaluated {
+    pub answer: Value,
+    pub left: u32,
+}
 
 // A final value: held to signed 32 bits, or stop 22 on its node.
 fn ranged(value: i64, n: usize) -> Value
@@ -56,29 +63,70 @@ pub fn eval(
     ensures { λ r. ⌜ Gives (Evaluates (now (file .entry)) n) (cells-of (now (amounts .entry)) (now (presence .entry)) (now (labels .entry)))
         (vars-of (now (vars .entry)) (now (tags .entry))) left r ⌝ }
 {
+    let mut label = [0u64; 8];
+    let x = join(
+        file,
+        nodes,
+        costs,
+        n,
+        left,
+        vars,
+        tags,
+        amounts,
+        presence,
+        labels,
+        &mut label,
+    );
+    let answer = x.answer;
+    Valued {
+        answer,
+        left: x.left,
+        label,
+    }
+}
+
+// Evaluates expression `n` and joins its label to `label`.
+fn join(
+    file: &[u8],
+    nodes: usize,
+    costs: &[u32; 27],
+    n: usize,
+    left: u32,
+    vars: &[i32; 16],
+    tags: &[u64; 128],
+    amounts: &[i32],
+    presence: &[u64],
+    labels: &[u64],
+    label: &mut [u64; 8],
+) -> Evaluated
+    requires { ⌜ Ready (now file) nodes (now costs) × Node expression (now file) n ⌝ }
+    requires { ⌜ Lengths (now amounts) (now presence) (now labels) ⌝ }
+    ensures { λ r. ⌜ Joins (Evaluates (now (file .entry)) n) (cells-of (now (amounts .entry)) (now (presence .entry)) (now (labels .entry)))
+        (vars-of (now (vars .entry)) (now (tags .entry))) left (now (label .entry)) r (now (label .exit)) ⌝ }
+{
     let at = nodes + 16 * n;
     let kind = file[at];
     let cost = costs[kind as usize];
     if left < cost {
-        return Valued {
+        return Evaluated {
             answer: Value::Stopped(21, n),
             left,
-            label: [0u64; 8],
         };
     }
     if kind == 1 {
-        return Valued {
+        return Evaluated {
             answer: Value::Known(numbers::i32_at(file, at + 10)),
             left: left - cost,
-            label: [0u64; 8],
         };
     }
     if kind == 2 {
         let p = numbers::byte_at(file, at + 1);
-        return Valued {
+        let old = *label;
+        let next = places::union(old, labels::label_at(tags, p));
+        *label = next;
+        return Evaluated {
             answer: Value::Known(vars[p]),
             left: left - cost,
-            label: labels::label_at(tags, p),
         };
     }
     if kind < 7 {
@@ -93,6 +141,7 @@ pub fn eval(
             amounts,
             presence,
             labels,
+            label,
         );
     }
     query(
@@ -106,6 +155,7 @@ pub fn eval(
         amounts,
         presence,
         labels,
+        label,
     )
 }
 
@@ -121,14 +171,15 @@ fn pair(
     amounts: &[i32],
     presence: &[u64],
     labels: &[u64],
-) -> Valued
+    label: &mut [u64; 8],
+) -> Evaluated
     requires { ⌜ Ready (now file) nodes (now costs) × Node expression (now file) n × (between 3 6 (node-at (decode (now file)) n .kind) ≡ true) ⌝ }
     requires { ⌜ Lengths (now amounts) (now presence) (now labels) ⌝ }
-    ensures { λ r. ⌜ Gives (Expresses (now (file .entry)) n) (cells-of (now (amounts .entry)) (now (presence .entry)) (now (labels .entry)))
-        (vars-of (now (vars .entry)) (now (tags .entry))) left r ⌝ }
+    ensures { λ r. ⌜ Joins (Expresses (now (file .entry)) n) (cells-of (now (amounts .entry)) (now (presence .entry)) (now (labels .entry)))
+        (vars-of (now (vars .entry)) (now (tags .entry))) left (now (label .entry)) r (now (label .exit)) ⌝ }
 {
     let at = nodes + 16 * n;
-    let x = eval(
+    let x = join(
         file,
         nodes,
         costs,
@@ -139,12 +190,13 @@ fn pair(
         amounts,
         presence,
         labels,
+        label,
     );
     let first = x.answer;
     let Value::Known(a) = first else {
         return x;
     };
-    let y = eval(
+    let y = join(
         file,
         nodes,
         costs,
@@ -155,17 +207,15 @@ fn pair(
         amounts,
         presence,
         labels,
+        label,
     );
     let second = y.answer;
     let Value::Known(b) = second else {
         return y;
     };
-    let a_label = x.label;
-    let b_label = y.label;
-    Valued {
+    Evaluated {
         answer: ranged(combined(file[at], a, b), n),
         left: y.left,
-        label: places::union(a_label, b_label),
     }
 }
 
@@ -181,14 +231,15 @@ fn query(
     amounts: &[i32],
     presence: &[u64],
     labels: &[u64],
-) -> Valued
+    label: &mut [u64; 8],
+) -> Evaluated
     requires { ⌜ Ready (now file) nodes (now costs) × Node expression (now file) n × (between 8 11 (node-at (decode (now file)) n .kind) ≡ true) ⌝ }
     requires { ⌜ Lengths (now amounts) (now presence) (now labels) ⌝ }
-    ensures { λ r. ⌜ Gives (Expresses (now (file .entry)) n) (cells-of (now (amounts .entry)) (now (presence .entry)) (now (labels .entry)))
-        (vars-of (now (vars .entry)) (now (tags .entry))) left r ⌝ }
+    ensures { λ r. ⌜ Joins (Expresses (now (file .entry)) n) (cells-of (now (amounts .entry)) (now (presence .entry)) (now (labels .entry)))
+        (vars-of (now (vars .entry)) (now (tags .entry))) left (now (label .entry)) r (now (label .exit)) ⌝ }
 {
     let at = nodes + 16 * n;
-    let w = eval(
+    let w = join(
         file,
         nodes,
         costs,
@@ -199,12 +250,13 @@ fn query(
         amounts,
         presence,
         labels,
+        label,
     );
     let first = w.answer;
     let Value::Known(a) = first else {
         return w;
     };
-    let x = eval(
+    let x = join(
         file,
         nodes,
         costs,
@@ -215,12 +267,13 @@ fn query(
         amounts,
         presence,
         labels,
+        label,
     );
     let second = x.answer;
     let Value::Known(b) = second else {
         return x;
     };
-    let y = eval(
+    let y = join(
         file,
         nodes,
         costs,
@@ -231,12 +284,13 @@ fn query(
         amounts,
         presence,
         labels,
+        label,
     );
     let third = y.answer;
     let Value::Known(c) = third else {
         return y;
     };
-    let z = eval(
+    let z = join(
         file,
         nodes,
         costs,
@@ -247,19 +301,12 @@ fn query(
         amounts,
         presence,
         labels,
+        label,
     );
     let fourth = z.answer;
     let Value::Known(d) = fourth else {
         return z;
     };
-    let a_label = w.label;
-    let b_label = x.label;
-    let c_label = y.label;
-    let d_label = z.label;
-    let bounds = places::union(
-        places::union(a_label, b_label),
-        places::union(c_label, d_label),
-    );
     let found = queries::query(
         file[at],
         numbers::byte_at(file, at + 1),
@@ -272,9 +319,11 @@ fn query(
         labels,
     );
     let seen = found.label;
-    Valued {
+    let old = *label;
+    let next = places::union(old, seen);
+    *label = next;
+    Evaluated {
         answer: ranged(found.value, n),
         left: z.left,
-        label: places::union(bounds, seen),
     }
 }

@@ -10,7 +10,7 @@ use native.Mathlib.Omega.{arith}
 use lib.Pow.{pow-mono, pow-pos}
 use lib.Bits.{bitOr, or-zero-r, or-lt}
 use lib.Dec.{eqb, ltb}
-use lib.ListN.{length, getD, List·getD-eq-default}
+use lib.ListN.{length, getD, length-replicate, List·getD-eq-default}
 use lib.Seq.{ext-getD}
 use borrow.Author.Tests.{eqb-true, eq-eqb, lt-ltb, le-ltb}
 use Rattle.places.specs.Sets.{Words, bit, has, empty, word-of, set-of, single, word-by-word, union, without, difference, within, Within}
@@ -141,6 +141,29 @@ within-union-right a b = bits-within (λ w k. rw union-bit (le-max-right _ _))
 
 pub union-least : {a b c : List ℕ} → Within a c → Within b c → Within (union a b) c
 union-least h l = bits-within (λ w k. rw union-bit (max-le (within-bits h w k) (within-bits l w k)))
+
+pub union-assoc : (a b c : List ℕ) → union (union a b) c ≡ union a (union b c)
+unfolding union
+union-assoc a b c =
+    within-antisym
+    (omega (arith, length-word-by-word bitOr (union a b) c, length-word-by-word bitOr a b, length-word-by-word bitOr a (union b c), length-word-by-word bitOr b c))
+    (union-least (union-least (within-union-left a (union b c)) (within-trans (within-union-left b c) right)) (within-trans (within-union-right b c) right))
+    (union-least (within-trans (within-union-left a b) left) (union-least (within-trans (within-union-right a b) left) (within-union-right (union a b) c)))
+  where
+    left : Within (union a b) (union (union a b) c)
+    left = within-union-left (union a b) c
+
+    right : Within (union b c) (union a (union b c))
+    right = within-union-right a (union b c)
+
+-- the empty set of equally many words adds nothing, on either side
+pub empty-union : {n : ℕ} (a : List ℕ) → length a ≡ n → union (empty n) a ≡ a
+empty-union {n} a e =
+    within-antisym (length-union (empty n) a (length-replicate n 0) e ∙ sym e) (union-least (empty-within n a) (within-refl a)) (within-union-right (empty n) a)
+
+pub union-empty : {n : ℕ} (a : List ℕ) → length a ≡ n → union a (empty n) ≡ a
+union-empty {n} a e =
+    within-antisym (length-union a (empty n) e (length-replicate n 0) ∙ sym e) (union-least (within-refl a) (empty-within n a)) (within-union-left a (empty n))
 
 -- ---- difference
 

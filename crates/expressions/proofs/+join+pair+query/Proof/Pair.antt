@@ -6,7 +6,6 @@ use native.Mathlib.Omega.{arith}
 use lib.IntN.{ℤ}
 use mir.Syntax.{w32, w64}
 use borrow.Author.Needs.{needs}
-use Rattle.places.specs.Sets.{union}
 use Rattle.book.specs.Layout.{decode}
 use Rattle.book.specs.Kinds.{expression, between}
 use Rattle.book.specs.Refusals.{node-at}
@@ -20,17 +19,16 @@ use Rattle.expressions.specs.Values.{held-to-32, combine}
 use Rattle.expressions.proofs.Signed.{kept}
 use Rattle.expressions.proofs.Parts.{pair-first-stops, pair-second-stops, pair-combines}
 use Rattle.expressions.proofs.Entries.{read, pair-first, pair-second}
-use Rattle.expressions.proofs.eval.Reads as eval
+use Rattle.expressions.proofs.join.Reads as join
 use Rattle.expressions.proofs.pair.Reads as pair
-use Rattle.expressions.proofs.+eval+pair+query.Lts-pair as pair-lts
+use Rattle.expressions.proofs.+join+pair+query.Lts-pair as pair-lts
 use Rattle.numbers.proofs.u16_at.Reads as u16-at-reads
 use Rattle.expressions.proofs.combined.Reads as combined-reads
 use Rattle.expressions.proofs.ranged.Reads as ranged-reads
-use Rattle.places.proofs.union.Reads as union-reads
-use Rattle.expressions.proofs.+eval+pair+query.Proof.Common.{pair-at, eval-below}
+use Rattle.expressions.proofs.+join+pair+query.Proof.Common.{pair-at, join-below}
 
 abbrev pub pair-cs : ℕ → pair-lts.Claims
-pair-cs t = (u16-at-reads.Asked, u16-at-reads.Learnt, eval-below t, eval.Post, combined-reads.Asked, combined-reads.Learnt, ranged-reads.Asked, ranged-reads.Learnt, union-reads.Asked, union-reads.Learnt)
+pair-cs t = (u16-at-reads.Asked, u16-at-reads.Learnt, join-below t, join.Post, combined-reads.Asked, combined-reads.Learnt, ranged-reads.Asked, ranged-reads.Learnt)
 
 module _ (t : ℕ) where
   -- ---- what the call is given
@@ -78,10 +76,10 @@ module _ (t : ℕ) where
       let r = record-of (c .before .before .before) in
       omega (arith, r .end)
 
-  pub eval-requires : pair-lts.Need-eval-requires (pair-cs t) (pair-at t) pair.Post
-  eval-requires c κs =
-      let o = c .before .before .before .before in
-      let child = pair-first (ready o) (node o) (kind-is o) (c .u16-at .ensures .0) in
+  pub join-requires : pair-lts.Need-join-requires (pair-cs t) (pair-at t) pair.Post
+  join-requires c κs =
+      let o = c .before .before .before .before .before in
+      let child = pair-first (ready o) (node o) (kind-is o) (c .before .u16-at .ensures .0) in
       (omega (arith, o .pre .0, child .lower), ((ready o, child .node), o .pre .1 .1))
 
   pub enum-known-first : pair-lts.Need-enum-known-first (pair-cs t) (pair-at t) pair.Post
@@ -93,25 +91,25 @@ module _ (t : ℕ) where
   pub returns : pair-lts.Need-returns (pair-cs t) (pair-at t) pair.Post
   returns c =
       let x = c .before .before in
-      let o = x .before .before .before .before .before in
+      let o = x .before .before .before .before .before .before in
       let r = record-of o in
       pair-first-stops (o .args .file .now) (o .args .n) (cells o) (vars o) (o .args .left) (kind-is o)
-      (x .before .u16-at .ensures .0 ∙ r .a) (x .eval .ensures) (c .enum-told .given .1)
+      (x .before .before .u16-at .ensures .0 ∙ r .a) (x .join .ensures) (c .enum-told .given .1)
 
   pub add-u16-at-2 : pair-lts.Need-add-u16-at-2 (pair-cs t) (pair-at t) pair.Post
   add-u16-at-2 c =
-      let r = record-of (c .before .before .before .before .before .before .before .before) in
+      let r = record-of (c .before .before .before .before .before .before .before .before .before) in
       record { fits = omega (arith, r .end, r .short) }
 
   pub u16-at-requires-2 : pair-lts.Need-u16-at-requires-2 (pair-cs t) (pair-at t) pair.Post
   u16-at-requires-2 c κs =
-      let r = record-of (c .before .before .before .before .before .before .before .before) in
+      let r = record-of (c .before .before .before .before .before .before .before .before .before) in
       omega (arith, r .end)
 
-  pub eval-requires-2 : pair-lts.Need-eval-requires-2 (pair-cs t) (pair-at t) pair.Post
-  eval-requires-2 c κs =
-      let o = c .before .before .before .before .before .before .before .before .before in
-      let child = pair-second (ready o) (node o) (kind-is o) (c .u16-at2 .ensures .0) in
+  pub join-requires-2 : pair-lts.Need-join-requires-2 (pair-cs t) (pair-at t) pair.Post
+  join-requires-2 c κs =
+      let o = c .before .before .before .before .before .before .before .before .before .before .before in
+      let child = pair-second (ready o) (node o) (kind-is o) (c .before .u16-at2 .ensures .0) in
       (omega (arith, o .pre .0, child .lower), ((ready o, child .node), o .pre .1 .1))
 
   pub enum-known-second : pair-lts.Need-enum-known-second (pair-cs t) (pair-at t) pair.Post
@@ -123,13 +121,13 @@ module _ (t : ℕ) where
   pub returns-2 : pair-lts.Need-returns-2 (pair-cs t) (pair-at t) pair.Post
   returns-2 c =
       let y = c .before .before in
-      let a = y .before .before .before in
+      let a = y .before .before .before .before in
       let x = a .before .before in
-      let o = x .before .before .before .before .before in
+      let o = x .before .before .before .before .before .before in
       let r = record-of o in
       pair-second-stops (o .args .file .now) (o .args .n) (cells o) (vars o) (o .args .left) (kind-is o)
-      (x .before .u16-at .ensures .0 ∙ r .a) (x .eval .ensures) (a .first .given .1)
-      (y .before .u16-at2 .ensures .0 ∙ r .b) (y .eval2 .ensures) (c .enum-told2 .given .1)
+      (x .before .before .u16-at .ensures .0 ∙ r .a) (x .join .ensures) (a .first .given .1)
+      (y .before .before .u16-at2 .ensures .0 ∙ r .b) (y .join2 .ensures) (c .enum-told2 .given .1)
 
   pub shared-slice-read-combined : pair-lts.Need-shared-slice-read-combined (pair-cs t) (pair-at t) pair.Post
   shared-slice-read-combined c =
@@ -142,25 +140,21 @@ module _ (t : ℕ) where
   pub ranged-requires : pair-lts.Need-ranged-requires (pair-cs t) (pair-at t) pair.Post
   ranged-requires c κs = search needs
 
-  pub union-requires : pair-lts.Need-union-requires (pair-cs t) (pair-at t) pair.Post
-  union-requires c κs = search needs
-
   pub returns-3 : pair-lts.Need-returns-3 (pair-cs t) (pair-at t) pair.Post
   returns-3 c =
-      let b = c .before .before .before .before .before .before .before in
+      let told = c .before .before .before in
+      let b = told .before in
       let y = b .before .before in
-      let a = y .before .before .before in
+      let a = y .before .before .before .before in
       let x = a .before .before in
-      let o = x .before .before .before .before .before in
+      let o = x .before .before .before .before .before .before in
       let r = record-of o in
-      let ranged = c .before .ranged in
-      let exact = c .before .before .combined in
-      let first-kept = kept w32 (a .first .given .0 .0) (y .before .before .known-told .given .0 .1) in
-      let second-kept = kept w32 (b .second .given .0 .0) (c .before .before .before .before .before .before .known-told2 .given .0 .1) in
+      let exact = c .before .combined in
+      let first-kept = kept w32 (a .first .given .0 .0) (y .before .before .before .known-told .given .0 .1) in
+      let second-kept = kept w32 (b .second .given .0 .0) (told .known-told2 .given .0 .1) in
       let exact-is : exact .result ≡ combine (node-at (decode (o .args .file .now)) (o .args .n) .kind) (a .first .given .0 .0) (b .second .given .0 .0) = exact .ensures ∙ λ i. combine (r .kind i) (first-kept i) (second-kept i) in
-      let value-is : ranged .result ≡ held-to-32 (exact .result) (o .args .n) = ranged .ensures ∙ ap (λ (z : ℤ). held-to-32 z (o .args .n)) (kept w64 (exact .result) (exact .ok)) in
-      let label-is : c .union .result ≡ union (x .eval .result .label) (y .eval2 .result .label) = c .union .ensures in
-      rw (value-is, exact-is, label-is)
+      let value-is : c .ranged .result ≡ held-to-32 (exact .result) (o .args .n) = c .ranged .ensures ∙ ap (λ (z : ℤ). held-to-32 z (o .args .n)) (kept w64 (exact .result) (exact .ok)) in
+      rw (value-is, exact-is)
       (pair-combines (o .args .file .now) (o .args .n) (cells o) (vars o) (o .args .left) (kind-is o)
-      (x .before .u16-at .ensures .0 ∙ r .a) (x .eval .ensures) (a .first .given .1)
-      (y .before .u16-at2 .ensures .0 ∙ r .b) (y .eval2 .ensures) (b .second .given .1))
+      (x .before .before .u16-at .ensures .0 ∙ r .a) (x .join .ensures) (a .first .given .1)
+      (y .before .before .u16-at2 .ensures .0 ∙ r .b) (y .join2 .ensures) (b .second .given .1))
