@@ -1,17 +1,18 @@
 -- Laws of the lent label words.
-use mathlib.Core.Path.{_≡_, refl, sym, ap, _∙_}
+use mathlib.Core.Path.{_≡_, refl, sym, ap, ap₂, _∙_}
 use mathlib.Core.List.{List, _++_, append-assoc}
 use mathlib.Core.Logic.{⊎-elim}
-use Prim.Native.Nat.{ℕ, zero, suc, _+_, _-_, _*_, _≤_, _<_}
+use Prim.Native.Nat.{ℕ, zero, suc, _+_, _-_, _*_, _/_, _%_, _^_, _≤_, _<_}
 use native.Mathlib.Decide.{decLt}
 use native.Mathlib.Nat.{not-suc-le-zero, le-of-suc-le-suc, eq-or-lt-of-le}
 use native.Mathlib.Numerals.{add-one}
 use native.Mathlib.Omega.{arith}
-use lib.ListN.{length, take, drop, length-append, length-take, length-drop, take-append-drop}
-use lib.Seq.{take-at, take-all, take-append-le, drop-at, drop-drop, drop-append-le, drop-append-add, length-take-le}
-use Rattle.places.specs.Sets.{single}
-use Rattle.labels.specs.Labels.{label-at, set-label, own-labels}
+use lib.ListN.{length, take, drop, set, length-append, length-take, length-drop, take-append-drop, replicate-append-replicate, length-replicate, getD, getD-replicate}
+use lib.Seq.{take-at, take-all, take-append-le, drop-at, drop-drop, drop-append-le, drop-append-add, length-take-le, set-append-left, take-set-le, drop-set-add}
+use Rattle.places.specs.Sets.{empty, single}
+use Rattle.labels.specs.Labels.{label-at, set-label, own-labels, no-labels}
 use Rattle.places.proofs.Sets.{length-single}
+use Rattle.places.proofs.Shapes.{single-word}
 
 pub length-label : (labels : List ℕ) (p : ℕ) → 8 * p + 8 ≤ length labels → length (label-at labels p) ≡ 8
 length-label labels p h = simp (length-take, length-drop) (omega arith)
@@ -21,15 +22,38 @@ unfolding own-labels
 length-own zero = refl
 length-own (suc n) = rw length-append (omega (arith, length-own n, length-single 8 n))
 
--- a label stored behind those of the first n cells
-pub own-turn : (d r label : List ℕ) (n : ℕ) → 8 * n + 8 ≤ length d → label ≡ single 8 n → r ≡ own-labels n ++ drop (8 * n) d → set-label r n label ≡ own-labels (n + 1) ++ drop (8 * (n + 1)) d
+-- a store at or behind m leaves the first m elements
+set-behind : (l : List ℕ) (m i v : ℕ) → set l (m + i) v ≡ take m l ++ set (drop m l) i v
+set-behind l m i v =
+    sym (take-append-drop m (set l (m + i) v)) ∙ ap₂ (λ (x y : List ℕ). x ++ y) (take-set-le m l (m + i) v (omega arith)) (drop-set-add m l i v)
+
+pub length-none : (n : ℕ) → length (no-labels n) ≡ 8 * n
+unfolding no-labels
+length-none n = length-replicate (8 * n) 0
+
+pub none-at : (n i : ℕ) → i < 8 * n → getD (no-labels n) i 0 ≡ 0
+unfolding no-labels
+none-at n i h = getD-replicate (8 * n) i 0 0 h
+
+none-first : (m : ℕ) → no-labels (suc m) ≡ empty 8 ++ no-labels m
+unfolding no-labels
+none-first m =
+    let e : 8 * suc m ≡ 8 + 8 * m = omega arith in
+    ap empty e ∙ sym (replicate-append-replicate 8 (8 * m) 0)
+
+-- one bit stored behind the labels of the first n cells, where all other words are 0
+pub own-turn : (n m v : ℕ) → n < 512 → v ≡ 2 ^ (n % 64) → set (own-labels n ++ no-labels (suc m)) (8 * n + n / 64) v ≡ own-labels (n + 1) ++ no-labels m
 unfolding own-labels
-own-turn d r label n h e q =
-    let front : take (8 * n) r ≡ own-labels n = ap (take (8 * n)) q ∙ take-at (own-labels n) (drop (8 * n) d) (8 * n) (length-own n) in
-    let back : drop (8 * n + 8) r ≡ drop (8 * n + 8) d =
-    sym (drop-drop 8 (8 * n) r) ∙ ap (drop 8) (ap (drop (8 * n)) q ∙ drop-at (own-labels n) (drop (8 * n) d) (8 * n) (length-own n)) ∙ drop-drop 8 (8 * n) d in
-    let next : 8 * (n + 1) ≡ 8 * n + 8 = omega arith in
-    rw (front, back, e, next, add-one)
+own-turn n m v h e =
+    set-behind (own-labels n ++ no-labels (suc m)) (8 * n) (n / 64) v
+    ∙ ap₂ (λ (x y : List ℕ). x ++ set y (n / 64) v)
+    (take-at (own-labels n) (no-labels (suc m)) (8 * n) (length-own n))
+    (drop-at (own-labels n) (no-labels (suc m)) (8 * n) (length-own n) ∙ none-first m)
+    ∙ ap (λ (y : List ℕ). own-labels n ++ y)
+    (set-append-left (empty 8) (no-labels m) (n / 64) v (omega arith)
+    ∙ ap (λ (y : List ℕ). y ++ no-labels m) (ap (set (empty 8) (n / 64)) e ∙ sym (single-word 8 n (omega arith))))
+    ∙ sym (append-assoc (own-labels n) (single 8 n) (no-labels m))
+    ∙ ap (λ (j : ℕ). own-labels j ++ no-labels m) (sym (add-one n))
 
 -- ---- a label that was stored is read back, and the other cells' labels stay
 

@@ -2,7 +2,7 @@
 use mathlib.Core.List.{List, [], _++_}
 use Prim.Native.Nat.{ℕ, zero, suc, _+_, _*_}
 use lib.ListN.{take, drop}
-use Rattle.places.specs.Sets.{single}
+use Rattle.places.specs.Sets.{empty, single}
 
 -- the label of cell p
 abbrev pub label-at : List ℕ → ℕ → List ℕ
@@ -16,3 +16,7 @@ set-label labels p label = take (8 * p) labels ++ label ++ drop (8 * p + 8) labe
 unfoldable pub own-labels : ℕ → List ℕ
 own-labels zero = []
 own-labels (suc n) = own-labels n ++ single 8 n
+
+-- the labels of n cells, all empty
+unfoldable pub no-labels : ℕ → List ℕ
+no-labels n = empty (8 * n)

@@ -2,7 +2,7 @@
 ghost use mathlib.Core.Path.{_≡_};
 ghost use Prim.Native.Nat.{_+_, _*_, _≤_};
 ghost use lib.ListN.{length};
-ghost use Rattle.labels.specs.Labels.{label-at, set-label, own-labels};
+ghost use Rattle.labels.specs.Labels.{label-at, set-label, own-labels, no-labels};
 
 // The label of cell `place`, or of a variable where the words are those of variables.
 pub fn label_at(labels: &[u64], place: usize) -> [u64; 8]
@@ -30,15 +30,28 @@ pub fn set_label(labels: &mut [u64], place: usize, label: [u64; 8])
     }
 }
 
-// Makes each cell's label its own place alone, as it is at the start of a run.
+// Makes every label empty.
+fn clear(labels: &mut [u64])
+    requires { ⌜ length (now labels) ≡ 4096 ⌝ }
+    ensures { λ _. ⌜ now (labels .exit) ≡ no-labels 512 ⌝ }
+{
+    let mut word: usize = 0;
+    while word < 4096 {
+        labels[word] = 0;
+        word += 1;
+    }
+}
+
+// Makes each cell's label its own place alone, as it is at the start of a run: one bit in words that are all cleared first, since a
+// set made for each place and copied would take longer.
 pub fn own_labels(labels: &mut [u64])
     requires { ⌜ length (now labels) ≡ 4096 ⌝ }
     ensures { λ _. ⌜ now (labels .exit) ≡ own-labels 512 ⌝ }
 {
+    clear(labels);
     let mut place: usize = 0;
     while place < 512 {
-        let own = places::single(place);
-        set_label(labels, place, own);
+        labels[8 * place + place / 64] = 1u64 << (place % 64);
         place += 1;
     }
 }
