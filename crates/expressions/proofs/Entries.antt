@@ -47,14 +47,17 @@ expression-kind kind e = go (between 1 6 kind || between 8 11 kind) (between 16 
     go false true q = absurd (omega arith)
     go false false q = absurd (omega arith)
 
--- a kind that is neither 1 nor 2 and below 7 has two parts, and the others are queries
-pub pair-kind : (kind : ℕ) → sort-of kind ≡ expression → (kind ≡ 1 → ⊥) → (kind ≡ 2 → ⊥) → kind < 7 → between 3 6 kind ≡ true
+-- a kind below 3 that is not 1 is 2, one from 3 to 6 has two parts, and the others are queries
+pub leaf-kind : (kind : ℕ) → sort-of kind ≡ expression → kind < 3 → (kind ≡ 1 → ⊥) → kind ≡ 2
 unfolding sort-of
-pair-kind kind e p q h = go (ℕ-discrete kind 0)
+leaf-kind kind e h p = go (ℕ-discrete kind 0)
   where
-    go : Dec (kind ≡ 0) → between 3 6 kind ≡ true
+    go : Dec (kind ≡ 0) → kind ≡ 2
     go (yes z) = absurd (omega (arith, ap sort-of (sym z) ∙ e))
-    go (no z) = rw (le-leb 3 kind (omega arith), le-leb kind 6 (omega arith))
+    go (no z) = omega (arith, z, p)
+
+pub pair-kind : (kind : ℕ) → 3 ≤ kind → kind ≤ 6 → between 3 6 kind ≡ true
+pair-kind kind low high = rw (le-leb 3 kind low, le-leb kind 6 high)
 
 pub query-kind : (kind : ℕ) → sort-of kind ≡ expression → 7 ≤ kind → between 8 11 kind ≡ true
 query-kind kind e h = rw (le-leb 1 kind (omega arith), lt-leb kind 6 (omega arith)) at (expression-kind kind e)

@@ -3,10 +3,13 @@ use machine::Value;
 use machine::Valued;
 ghost use mathlib.Core.Path.{_≡_};
 ghost use mathlib.Core.Bool.{true};
+ghost use Prim.Native.Nat.{ℕ, _<_};
 ghost use Rattle.book.specs.Layout.{decode};
 ghost use Rattle.book.specs.Kinds.{expression, between};
 ghost use Rattle.book.specs.Refusals.{node-at};
 ghost use Rattle.book.specs.Start.{Lengths};
+ghost use Rattle.monitor.specs.Labelled.{Lab};
+ghost use Rattle.monitor.specs.Run.{Cell};
 ghost use Rattle.monitor.specs.Call.{cells-of};
 ghost use Rattle.machine.specs.Ready.{Ready, Node};
 ghost use Rattle.machine.specs.Store.{vars-of};
@@ -85,7 +88,47 @@ pub fn eval(
     }
 }
 
-// Evaluates expression `n` and joins its label to `label`.
+// 1 a constant, 2 a variable, whose label is joined to `label`.
+fn leaf(
+    file: &[u8],
+    nodes: usize,
+    costs: &[u32; 27],
+    n: usize,
+    left: u32,
+    vars: &[i32; 16],
+    tags: &[u64; 128],
+    label: &mut [u64; 8],
+) -> Evaluated
+    requires { ⌜ Ready (now file) nodes (now costs) × Node expression (now file) n × (node-at (decode (now file)) n .kind < 3) ⌝ }
+    ensures { λ r. ⌜ ((cells : ℕ → Lab Cell) → Joins (Evaluates (now (file .entry)) n) cells
+        (vars-of (now (vars .entry)) (now (tags .entry))) left (now (label .entry)) r (now (label .exit))) ⌝ }
+{
+    let at = nodes + 16 * n;
+    let kind = file[at];
+    let cost = costs[kind as usize];
+    if left < cost {
+        return Evaluated {
+            answer: Value::Stopped(21, n),
+            left,
+        };
+    }
+    if kind == 1 {
+        return Evaluated {
+            answer: Value::Known(numbers::i32_at(file, at + 10)),
+            left: left - cost,
+        };
+    }
+    let p = numbers::byte_at(file, at + 1);
+    let old = *label;
+    let next = places::union(old, labels::label_at(tags, p));
+    *label = next;
+    Evaluated {
+        answer: Value::Known(vars[p]),
+        left: left - cost,
+    }
+}
+
+// Evaluates expression `n` and joins its label to `label`. 3 to 6 have two parts.
 fn join(
     file: &[u8],
     nodes: usize,
@@ -106,36 +149,23 @@ fn join(
 {
     let at = nodes + 16 * n;
     let kind = file[at];
-    let cost = costs[kind as usize];
-    if left < cost {
+    if kind < 3 {
+        return leaf(file, nodes, costs, n, left, vars, tags, label);
+    }
+    let own = costs[kind as usize];
+    if left < own {
         return Evaluated {
             answer: Value::Stopped(21, n),
             left,
         };
     }
-    if kind == 1 {
-        return Evaluated {
-            answer: Value::Known(numbers::i32_at(file, at + 10)),
-            left: left - cost,
-        };
-    }
-    if kind == 2 {
-        let p = numbers::byte_at(file, at + 1);
-        let old = *label;
-        let next = places::union(old, labels::label_at(tags, p));
-        *label = next;
-        return Evaluated {
-            answer: Value::Known(vars[p]),
-            left: left - cost,
-        };
-    }
-    if kind < 7 {
-        return pair(
+    if 6 < kind {
+        return query(
             file,
             nodes,
             costs,
             n,
-            left - cost,
+            left - own,
             vars,
             tags,
             amounts,
@@ -144,47 +174,12 @@ fn join(
             label,
         );
     }
-    query(
-        file,
-        nodes,
-        costs,
-        n,
-        left - cost,
-        vars,
-        tags,
-        amounts,
-        presence,
-        labels,
-        label,
-    )
-}
-
-// 3 to 6: two parts.
-fn pair(
-    file: &[u8],
-    nodes: usize,
-    costs: &[u32; 27],
-    n: usize,
-    left: u32,
-    vars: &[i32; 16],
-    tags: &[u64; 128],
-    amounts: &[i32],
-    presence: &[u64],
-    labels: &[u64],
-    label: &mut [u64; 8],
-) -> Evaluated
-    requires { ⌜ Ready (now file) nodes (now costs) × Node expression (now file) n × (between 3 6 (node-at (decode (now file)) n .kind) ≡ true) ⌝ }
-    requires { ⌜ Lengths (now amounts) (now presence) (now labels) ⌝ }
-    ensures { λ r. ⌜ Joins (Expresses (now (file .entry)) n) (cells-of (now (amounts .entry)) (now (presence .entry)) (now (labels .entry)))
-        (vars-of (now (vars .entry)) (now (tags .entry))) left (now (label .entry)) r (now (label .exit)) ⌝ }
-{
-    let at = nodes + 16 * n;
-    let x = join(
+    let x = part(
         file,
         nodes,
         costs,
         numbers::u16_at(file, at + 2),
-        left,
+        left - own,
         vars,
         tags,
         amounts,
@@ -196,7 +191,7 @@ fn pair(
     let Value::Known(a) = first else {
         return x;
     };
-    let y = join(
+    let y = part(
         file,
         nodes,
         costs,
@@ -214,9 +209,46 @@ fn pair(
         return y;
     };
     Evaluated {
-        answer: ranged(combined(file[at], a, b), n),
+        answer: ranged(combined(kind, a, b), n),
         left: y.left,
     }
+}
+
+// The same for a part of a pair: most are leaves, and are evaluated without a call of `join`, which has a large frame.
+fn part(
+    file: &[u8],
+    nodes: usize,
+    costs: &[u32; 27],
+    n: usize,
+    left: u32,
+    vars: &[i32; 16],
+    tags: &[u64; 128],
+    amounts: &[i32],
+    presence: &[u64],
+    labels: &[u64],
+    label: &mut [u64; 8],
+) -> Evaluated
+    requires { ⌜ Ready (now file) nodes (now costs) × Node expression (now file) n ⌝ }
+    requires { ⌜ Lengths (now amounts) (now presence) (now labels) ⌝ }
+    ensures { λ r. ⌜ Joins (Evaluates (now (file .entry)) n) (cells-of (now (amounts .entry)) (now (presence .entry)) (now (labels .entry)))
+        (vars-of (now (vars .entry)) (now (tags .entry))) left (now (label .entry)) r (now (label .exit)) ⌝ }
+{
+    if file[nodes + 16 * n] < 3 {
+        return leaf(file, nodes, costs, n, left, vars, tags, label);
+    }
+    join(
+        file,
+        nodes,
+        costs,
+        n,
+        left,
+        vars,
+        tags,
+        amounts,
+        presence,
+        labels,
+        label,
+    )
 }
 
 // 8 to 11: four bounds, and the cells of a table in their box.

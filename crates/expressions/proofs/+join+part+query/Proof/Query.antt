@@ -22,13 +22,13 @@ use Rattle.expressions.proofs.Parts.{query-first-stops, query-second-st
 use Rattle.expressions.proofs.Entries.{read, query-table, query-first, query-second, query-third, query-fourth}
 use Rattle.expressions.proofs.join.Reads as join
 use Rattle.expressions.proofs.query.Reads as query
-use Rattle.expressions.proofs.+join+pair+query.Lts-query as query-lts
+use Rattle.expressions.proofs.+join+part+query.Lts-query as query-lts
 use Rattle.numbers.proofs.byte_at.Reads as byte-at-reads
 use Rattle.numbers.proofs.u16_at.Reads as u16-at-reads
 use Rattle.expressions.proofs.ranged.Reads as ranged-reads
 use Rattle.places.proofs.union.Reads as union-reads
 use Rattle.queries.proofs.query.Reads as query-reads
-use Rattle.expressions.proofs.+join+pair+query.Proof.Common.{query-at, join-below}
+use Rattle.expressions.proofs.+join+part+query.Proof.Common.{query-at, join-below}
 
 abbrev pub query-cs : ℕ → query-lts.Claims
 query-cs t = (u16-at-reads.Asked, u16-at-reads.Learnt, join-below t, join.Post, byte-at-reads.Asked, byte-at-reads.Learnt, query-reads.Asked, query-reads.Learnt, union-reads.Asked, union-reads.Learnt, ranged-reads.Asked, ranged-reads.Learnt)
