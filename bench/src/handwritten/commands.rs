@@ -1,10 +1,10 @@
 //! Commands.
 
-use super::kinds::{ASSIGN, CLEAR, GRANT, IF, OUT, PUT, RAISE, REVOKE, SKIP, THEN, WHILE};
 use super::machine::{Frame, Machine};
 use super::nodes::{Node, Stop};
 use super::sets::Label;
 use super::triggers::Write;
+use reference::book::kind::{ASSIGN, CLEAR, GRANT, IF, OUT, PUT, RAISE, REVOKE, SKIP, THEN, WHILE};
 
 impl Machine<'_> {
     /// Executes a command in a context. The second of two commands is the next

@@ -1,11 +1,13 @@
 //! Expressions. Each joins the labels of its parts to a label that its caller
 //! gathers, so no label is made, handed up or copied on the way.
 
-use super::kinds::{ADD, CONSTANT, COUNT, EQUAL, LARGEST, LESS, SMALLEST, SUBTRACT, SUM, VARIABLE};
 use super::machine::{Frame, Machine};
 use super::nodes::{Node, Stop};
 use super::regions::Area;
 use super::sets::Label;
+use reference::book::kind::{
+    ADD, CONSTANT, COUNT, EQUAL, LARGEST, LESS, SMALLEST, SUBTRACT, SUM, VARIABLE,
+};
 
 impl Machine<'_> {
     /// The value of an expression; its label is joined to `label`.

@@ -1,28 +1,10 @@
 //! The kinds of node, and whether nodes are good: refusal 8.
 
 use super::book::Refusal;
-
-pub const CONSTANT: u8 = 1;
-pub const VARIABLE: u8 = 2;
-pub const ADD: u8 = 3;
-pub const SUBTRACT: u8 = 4;
-pub const EQUAL: u8 = 5;
-pub const LESS: u8 = 6;
-pub const COUNT: u8 = 8;
-pub const SUM: u8 = 9;
-pub const SMALLEST: u8 = 10;
-pub const LARGEST: u8 = 11;
-pub const SKIP: u8 = 16;
-pub const ASSIGN: u8 = 17;
-pub const THEN: u8 = 18;
-pub const IF: u8 = 19;
-pub const WHILE: u8 = 20;
-pub const PUT: u8 = 21;
-pub const CLEAR: u8 = 22;
-pub const OUT: u8 = 23;
-pub const GRANT: u8 = 24;
-pub const REVOKE: u8 = 25;
-pub const RAISE: u8 = 26;
+use reference::book::kind::{
+    ADD, ASSIGN, CLEAR, CONSTANT, COUNT, GRANT, IF, LARGEST, LESS, OUT, PUT, RAISE, REVOKE, SKIP,
+    THEN, VARIABLE, WHILE,
+};
 
 /// What is known of each node; 0 where there is none.
 pub type Flags = [u8; 1_024];
