@@ -23,13 +23,13 @@ pub fn act(
     write: &mut [[u64; 8]; 8],
     vars: &mut [i32; 16],
     tags: &mut [u64; 128],
-    amounts: &[i32],
-    presence: &[u64],
-    labels: &[u64],
+    amounts: &[i32; 512],
+    presence: &[u64; 8],
+    labels: &[u64; 4096],
     trace: &mut [u8],
     used: usize,
 ) -> Ran
-    requires { ⌜ Lent (now file) nodes (now costs) (now public) (now amounts) (now presence) (now labels) (now trace) used ⌝ }
+    requires { ⌜ Lent (now file) nodes (now costs) (now public) (now trace) used ⌝ }
     requires { ⌜ Node command (now file) n × (between 18 22 (node-at (decode (now file)) n .kind) ≡ false) ⌝ }
     ensures { λ r. ⌜ Acts (now (file .entry)) (now (ctx .entry)) user n (vars-of (now (vars .entry)) (now (tags .entry)))
         (store (now (amounts .entry)) (now (presence .entry)) (now (labels .entry)) (now (read .entry)) (now (write .entry)) (now (trace .entry))) left used r (vars-of (now (vars .exit)) (now (tags .exit)))

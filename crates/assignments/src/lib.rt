@@ -7,7 +7,6 @@ ghost use lib.ListN.{length};
 ghost use Rattle.book.specs.Layout.{decode};
 ghost use Rattle.book.specs.Kinds.{command};
 ghost use Rattle.book.specs.Refusals.{node-at};
-ghost use Rattle.book.specs.Start.{Lengths};
 ghost use Rattle.monitor.specs.Run.{update};
 ghost use Rattle.machine.specs.Ready.{Ready, Node};
 ghost use Rattle.machine.specs.Store.{vars-of};
@@ -33,13 +32,12 @@ pub fn assign(
     ctx: &[u64; 8],
     vars: &mut [i32; 16],
     tags: &mut [u64; 128],
-    amounts: &[i32],
-    presence: &[u64],
-    labels: &[u64],
+    amounts: &[i32; 512],
+    presence: &[u64; 8],
+    labels: &[u64; 4096],
     used: usize,
 ) -> Ran
     requires { ⌜ Ready (now file) nodes (now costs) × Node command (now file) n × (node-at (decode (now file)) n .kind ≡ 17) ⌝ }
-    requires { ⌜ Lengths (now amounts) (now presence) (now labels) ⌝ }
     ensures { λ r. ⌜ Assigns (now (file .entry)) (now (ctx .entry)) n left used (now (amounts .entry)) (now (presence .entry)) (now (labels .entry))
         (vars-of (now (vars .entry)) (now (tags .entry))) r (vars-of (now (vars .exit)) (now (tags .exit))) ⌝ }
 {

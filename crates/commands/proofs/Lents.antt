@@ -7,13 +7,11 @@ use native.Mathlib.Decide.{ℕ-discrete, decLt}
 use native.Mathlib.Omega.{arith}
 use lib.Dec.{leb}
 use borrow.Author.Tests.{leb-true, lt-leb}
-use lib.IntN.{ℤ}
 use lib.ListN.{length, getD}
 use Rattle.book.specs.Records.{NodeRecord}
 use Rattle.book.specs.Layout.{decode}
 use Rattle.book.specs.Kinds.{expression, command, between, cost-of}
 use Rattle.book.specs.Refusals.{node-at}
-use Rattle.book.specs.Start.{Lengths}
 use Rattle.book.proofs.Chains.{both}
 use Rattle.monitor.specs.Rules.{cost-at}
 use Rattle.machine.specs.Ready.{script-of, Ready, Node, Lent}
@@ -67,13 +65,6 @@ outside-kinds {j} {k} e not18 not19 not20 not21 not22 = subst (λ (i : ℕ). bet
 
 -- ---- what is lent on
 
--- lent lists keep their lengths
-pub lengths-after : {amounts amounts' : List ℤ} {presence presence' labels labels' : List ℕ} → Lengths amounts presence labels
-    → length amounts' ≡ length amounts → length presence' ≡ length presence → length labels' ≡ length labels → Lengths amounts' presence' labels'
-lengths-after l a p q = record { amounts-are = a ∙ l .amounts-are; presence-is = p ∙ l .presence-is; labels-are = q ∙ l .labels-are }
-
-pub lent-after : {file : List ℕ} {nodes : ℕ} {costs public : List ℕ} {amounts amounts' : List ℤ}
-    {presence presence' labels labels' trace trace' : List ℕ} {used used' : ℕ} → Lent file nodes costs public amounts presence labels trace used
-    → Lengths amounts' presence' labels' → length trace' ≡ length trace → used' ≤ length trace
-    → Lent file nodes costs public amounts' presence' labels' trace' used'
-lent-after l c t u = record { ready = l .ready; cells = c; public-is = l .public-is; short = omega (arith, l .short); room = omega arith }
+pub lent-after : {file : List ℕ} {nodes : ℕ} {costs public trace trace' : List ℕ} {used used' : ℕ} → Lent file nodes costs public trace used
+    → length trace' ≡ length trace → used' ≤ length trace → Lent file nodes costs public trace' used'
+lent-after l t u = record { ready = l .ready; public-is = l .public-is; short = omega (arith, l .short); room = omega arith }

@@ -12,7 +12,6 @@ use Rattle.places.specs.Sets.{union}
 use Rattle.book.specs.Records.{NodeRecord}
 use Rattle.book.specs.Layout.{decode}
 use Rattle.book.specs.Refusals.{node-at, is-zero}
-use Rattle.book.specs.Start.{Lengths}
 use Rattle.monitor.specs.Labelled.{Label, bottom, Lab}
 use Rattle.monitor.specs.Run.{State, Rec, Out, M, after, next, _>>=_, _>>_, ret}
 use Rattle.monitor.specs.Rules.{Env, within-label, choose, cost-at, command, exec}
@@ -53,7 +52,6 @@ pub record Turned (file : List ℕ) (user above n : ℕ) (ctx : Label) (vars : �
 pub record Turning (file : List ℕ) (user above n : ℕ) (ctx : Label) (vars : ℕ → Lab ℤ) (x : Store) (left used : ℕ) (ctx' : Label) (vars' : ℕ → Lab ℤ)
     (x' : Store) (left' used' : ℕ) : Type 0 where
   pub turned : Turned file user above n ctx vars x left used ctx' vars' x' left' used'
-  pub cells : Lengths (x' .amounts) (x' .presence) (x' .labels)
 
 -- ---- the cost of the next test
 

@@ -11,7 +11,6 @@ ghost use lib.ListN.{getD};
 ghost use Rattle.book.specs.Layout.{count, section, decode};
 ghost use Rattle.book.specs.Kinds.{command, between};
 ghost use Rattle.book.specs.Refusals.{node-at, verdict};
-ghost use Rattle.book.specs.Start.{Lengths};
 ghost use Rattle.book.specs.declared.Verdict.the-variants.{Accepted};
 ghost use Rattle.monitor.specs.Call.{cells-of};
 ghost use Rattle.machine.specs.Ready.{Ready, Node, Lent};
@@ -48,13 +47,13 @@ pub fn exec(
     write: &mut [[u64; 8]; 8],
     vars: &mut [i32; 16],
     tags: &mut [u64; 128],
-    amounts: &mut [i32],
-    presence: &mut [u64],
-    labels: &mut [u64],
+    amounts: &mut [i32; 512],
+    presence: &mut [u64; 8],
+    labels: &mut [u64; 4096],
     trace: &mut [u8],
     used: usize,
 ) -> Ran
-    requires { ⌜ Lent (now file) nodes (now costs) (now public) (now amounts) (now presence) (now labels) (now trace) used ⌝ }
+    requires { ⌜ Lent (now file) nodes (now costs) (now public) (now trace) used ⌝ }
     requires { ⌜ Node command (now file) n × (user < 8) ⌝ }
     ensures { λ r. ⌜ Does (Enters (now (file .entry)) (now (ctx .entry)) user above n) (vars-of (now (vars .entry)) (now (tags .entry)))
         (store (now (amounts .entry)) (now (presence .entry)) (now (labels .entry)) (now (read .entry)) (now (write .entry)) (now (trace .entry))) left used r (vars-of (now (vars .exit)) (now (tags .exit)))
@@ -206,13 +205,13 @@ fn sequence(
     write: &mut [[u64; 8]; 8],
     vars: &mut [i32; 16],
     tags: &mut [u64; 128],
-    amounts: &mut [i32],
-    presence: &mut [u64],
-    labels: &mut [u64],
+    amounts: &mut [i32; 512],
+    presence: &mut [u64; 8],
+    labels: &mut [u64; 4096],
     trace: &mut [u8],
     used: usize,
 ) -> Ran
-    requires { ⌜ Lent (now file) nodes (now costs) (now public) (now amounts) (now presence) (now labels) (now trace) used ⌝ }
+    requires { ⌜ Lent (now file) nodes (now costs) (now public) (now trace) used ⌝ }
     requires { ⌜ Node command (now file) n × (user < 8) × (node-at (decode (now file)) n .kind ≡ 18) ⌝ }
     ensures { λ r. ⌜ Does (Commands (now (file .entry)) (now (ctx .entry)) user above n) (vars-of (now (vars .entry)) (now (tags .entry)))
         (store (now (amounts .entry)) (now (presence .entry)) (now (labels .entry)) (now (read .entry)) (now (write .entry)) (now (trace .entry))) left used r (vars-of (now (vars .exit)) (now (tags .exit)))
@@ -282,13 +281,13 @@ fn branch(
     write: &mut [[u64; 8]; 8],
     vars: &mut [i32; 16],
     tags: &mut [u64; 128],
-    amounts: &mut [i32],
-    presence: &mut [u64],
-    labels: &mut [u64],
+    amounts: &mut [i32; 512],
+    presence: &mut [u64; 8],
+    labels: &mut [u64; 4096],
     trace: &mut [u8],
     used: usize,
 ) -> Ran
-    requires { ⌜ Lent (now file) nodes (now costs) (now public) (now amounts) (now presence) (now labels) (now trace) used ⌝ }
+    requires { ⌜ Lent (now file) nodes (now costs) (now public) (now trace) used ⌝ }
     requires { ⌜ Node command (now file) n × (user < 8) × (node-at (decode (now file)) n .kind ≡ 19) ⌝ }
     ensures { λ r. ⌜ Does (Commands (now (file .entry)) (now (ctx .entry)) user above n) (vars-of (now (vars .entry)) (now (tags .entry)))
         (store (now (amounts .entry)) (now (presence .entry)) (now (labels .entry)) (now (read .entry)) (now (write .entry)) (now (trace .entry))) left used r (vars-of (now (vars .exit)) (now (tags .exit)))
@@ -349,13 +348,13 @@ fn repeat(
     write: &mut [[u64; 8]; 8],
     vars: &mut [i32; 16],
     tags: &mut [u64; 128],
-    amounts: &mut [i32],
-    presence: &mut [u64],
-    labels: &mut [u64],
+    amounts: &mut [i32; 512],
+    presence: &mut [u64; 8],
+    labels: &mut [u64; 4096],
     trace: &mut [u8],
     used: usize,
 ) -> Ran
-    requires { ⌜ Lent (now file) nodes (now costs) (now public) (now amounts) (now presence) (now labels) (now trace) used ⌝ }
+    requires { ⌜ Lent (now file) nodes (now costs) (now public) (now trace) used ⌝ }
     requires { ⌜ Node command (now file) n × (user < 8) × (node-at (decode (now file)) n .kind ≡ 20) ⌝ }
     ensures { λ r. ⌜ Does (Commands (now (file .entry)) (now (ctx .entry)) user above n) (vars-of (now (vars .entry)) (now (tags .entry)))
         (store (now (amounts .entry)) (now (presence .entry)) (now (labels .entry)) (now (read .entry)) (now (write .entry)) (now (trace .entry))) left used r (vars-of (now (vars .exit)) (now (tags .exit)))
@@ -424,11 +423,11 @@ fn decide(
     ctx: &[u64; 8],
     vars: &[i32; 16],
     tags: &[u64; 128],
-    amounts: &[i32],
-    presence: &[u64],
-    labels: &[u64],
+    amounts: &[i32; 512],
+    presence: &[u64; 8],
+    labels: &[u64; 4096],
 ) -> Decided
-    requires { ⌜ Ready (now file) nodes (now costs) × Lengths (now amounts) (now presence) (now labels) ⌝ }
+    requires { ⌜ Ready (now file) nodes (now costs) ⌝ }
     requires { ⌜ Node command (now file) n × (between 19 20 (node-at (decode (now file)) n .kind) ≡ true) ⌝ }
     ensures { λ r. ⌜ Decides (now (file .entry)) (now (ctx .entry)) n (cells-of (now (amounts .entry)) (now (presence .entry)) (now (labels .entry)))
         (vars-of (now (vars .entry)) (now (tags .entry))) left r ⌝ }
@@ -524,13 +523,13 @@ fn post(
     write: &mut [[u64; 8]; 8],
     vars: &mut [i32; 16],
     tags: &mut [u64; 128],
-    amounts: &mut [i32],
-    presence: &mut [u64],
-    labels: &mut [u64],
+    amounts: &mut [i32; 512],
+    presence: &mut [u64; 8],
+    labels: &mut [u64; 4096],
     trace: &mut [u8],
     used: usize,
 ) -> Ran
-    requires { ⌜ Lent (now file) nodes (now costs) (now public) (now amounts) (now presence) (now labels) (now trace) used ⌝ }
+    requires { ⌜ Lent (now file) nodes (now costs) (now public) (now trace) used ⌝ }
     requires { ⌜ Node command (now file) n × (user < 8) × (node-at (decode (now file)) n .kind ≡ 20 + event) × (0 < event) × (event < 3) ⌝ }
     ensures { λ r. ⌜ Does (Commands (now (file .entry)) (now (ctx .entry)) user above n) (vars-of (now (vars .entry)) (now (tags .entry)))
         (store (now (amounts .entry)) (now (presence .entry)) (now (labels .entry)) (now (read .entry)) (now (write .entry)) (now (trace .entry))) left used r (vars-of (now (vars .exit)) (now (tags .exit)))
@@ -599,13 +598,13 @@ fn fire(
     label: &[u64; 8],
     read: &mut [[u64; 8]; 8],
     write: &mut [[u64; 8]; 8],
-    amounts: &mut [i32],
-    presence: &mut [u64],
-    labels: &mut [u64],
+    amounts: &mut [i32; 512],
+    presence: &mut [u64; 8],
+    labels: &mut [u64; 4096],
     trace: &mut [u8],
     used: usize,
 ) -> Ran
-    requires { ⌜ Lent (now file) nodes (now costs) (now public) (now amounts) (now presence) (now labels) (now trace) used ⌝ }
+    requires { ⌜ Lent (now file) nodes (now costs) (now public) (now trace) used ⌝ }
     requires { ⌜ place < 512 ⌝ }
     ensures { λ r. ⌜ DoesAside (Fires (now (file .entry)) (now (ctx .entry)) t event place (key-of owner line) (record { val = cell event amount; lab = now (label .entry) }))
         (store (now (amounts .entry)) (now (presence .entry)) (now (labels .entry)) (now (read .entry)) (now (write .entry)) (now (trace .entry))) left used r

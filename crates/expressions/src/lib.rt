@@ -7,7 +7,6 @@ ghost use Prim.Native.Nat.{ℕ, _<_};
 ghost use Rattle.book.specs.Layout.{decode};
 ghost use Rattle.book.specs.Kinds.{expression, between};
 ghost use Rattle.book.specs.Refusals.{node-at};
-ghost use Rattle.book.specs.Start.{Lengths};
 ghost use Rattle.monitor.specs.Labelled.{Lab};
 ghost use Rattle.monitor.specs.Run.{Cell};
 ghost use Rattle.monitor.specs.Call.{cells-of};
@@ -57,12 +56,11 @@ pub fn eval(
     left: u32,
     vars: &[i32; 16],
     tags: &[u64; 128],
-    amounts: &[i32],
-    presence: &[u64],
-    labels: &[u64],
+    amounts: &[i32; 512],
+    presence: &[u64; 8],
+    labels: &[u64; 4096],
 ) -> Valued
     requires { ⌜ Ready (now file) nodes (now costs) × Node expression (now file) n ⌝ }
-    requires { ⌜ Lengths (now amounts) (now presence) (now labels) ⌝ }
     ensures { λ r. ⌜ Gives (Evaluates (now (file .entry)) n) (cells-of (now (amounts .entry)) (now (presence .entry)) (now (labels .entry)))
         (vars-of (now (vars .entry)) (now (tags .entry))) left r ⌝ }
 {
@@ -137,13 +135,12 @@ fn join(
     left: u32,
     vars: &[i32; 16],
     tags: &[u64; 128],
-    amounts: &[i32],
-    presence: &[u64],
-    labels: &[u64],
+    amounts: &[i32; 512],
+    presence: &[u64; 8],
+    labels: &[u64; 4096],
     label: &mut [u64; 8],
 ) -> Evaluated
     requires { ⌜ Ready (now file) nodes (now costs) × Node expression (now file) n ⌝ }
-    requires { ⌜ Lengths (now amounts) (now presence) (now labels) ⌝ }
     ensures { λ r. ⌜ Joins (Evaluates (now (file .entry)) n) (cells-of (now (amounts .entry)) (now (presence .entry)) (now (labels .entry)))
         (vars-of (now (vars .entry)) (now (tags .entry))) left (now (label .entry)) r (now (label .exit)) ⌝ }
 {
@@ -223,13 +220,12 @@ fn part(
     left: u32,
     vars: &[i32; 16],
     tags: &[u64; 128],
-    amounts: &[i32],
-    presence: &[u64],
-    labels: &[u64],
+    amounts: &[i32; 512],
+    presence: &[u64; 8],
+    labels: &[u64; 4096],
     label: &mut [u64; 8],
 ) -> Evaluated
     requires { ⌜ Ready (now file) nodes (now costs) × Node expression (now file) n ⌝ }
-    requires { ⌜ Lengths (now amounts) (now presence) (now labels) ⌝ }
     ensures { λ r. ⌜ Joins (Evaluates (now (file .entry)) n) (cells-of (now (amounts .entry)) (now (presence .entry)) (now (labels .entry)))
         (vars-of (now (vars .entry)) (now (tags .entry))) left (now (label .entry)) r (now (label .exit)) ⌝ }
 {
@@ -260,13 +256,12 @@ fn query(
     left: u32,
     vars: &[i32; 16],
     tags: &[u64; 128],
-    amounts: &[i32],
-    presence: &[u64],
-    labels: &[u64],
+    amounts: &[i32; 512],
+    presence: &[u64; 8],
+    labels: &[u64; 4096],
     label: &mut [u64; 8],
 ) -> Evaluated
     requires { ⌜ Ready (now file) nodes (now costs) × Node expression (now file) n × (between 8 11 (node-at (decode (now file)) n .kind) ≡ true) ⌝ }
-    requires { ⌜ Lengths (now amounts) (now presence) (now labels) ⌝ }
     ensures { λ r. ⌜ Joins (Expresses (now (file .entry)) n) (cells-of (now (amounts .entry)) (now (presence .entry)) (now (labels .entry)))
         (vars-of (now (vars .entry)) (now (tags .entry))) left (now (label .entry)) r (now (label .exit)) ⌝ }
 {

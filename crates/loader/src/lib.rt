@@ -40,18 +40,6 @@ fn load_cells(file: &[u8], amounts: &mut [i32]) -> [u64; 8]
     set
 }
 
-// Stores a set in lent words.
-fn store_set(words: &mut [u64], set: [u64; 8])
-    requires { ⌜ length (now words) ≡ 8 ⌝ }
-    ensures { λ _. ⌜ now (words .exit) ≡ set ⌝ }
-{
-    let mut stored: usize = 0;
-    while stored < 8 {
-        words[stored] = set[stored];
-        stored += 1;
-    }
-}
-
 // Sets lent memory to the start state of the book in a file, or refuses and leaves it as it was.
 pub fn load(
     file: &[u8],
@@ -76,7 +64,7 @@ pub fn load(
         return verdict;
     };
     let set = load_cells(file, amounts);
-    store_set(presence, set);
+    memory::copy_words(&set, presence);
     labels::own_labels(labels);
     book::Verdict::Accepted
 }

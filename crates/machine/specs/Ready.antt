@@ -2,13 +2,12 @@
 use mathlib.Core.Path.{_≡_}
 use mathlib.Core.List.{List}
 use Prim.Native.Nat.{ℕ, _≤_, _<_}
-use lib.IntN.{ℤ}
 use lib.ListN.{length}
 use Rattle.book.specs.Records.{Book}
 use Rattle.book.specs.Layout.{count, section, decode}
 use Rattle.book.specs.Kinds.{cost-of, sort-of}
 use Rattle.book.specs.Refusals.{node-at, verdict}
-use Rattle.book.specs.Start.{Lengths, tabulate, public-set}
+use Rattle.book.specs.Start.{tabulate, public-set}
 use Rattle.book.specs.declared.Verdict.the-variants.{Accepted}
 use Rattle.monitor.specs.Call.{script}
 
@@ -28,9 +27,8 @@ pub record Node (sort : ℕ) (file : List ℕ) (n : ℕ) : Type 0 where
   pub sort-is : sort-of (node-at (decode file) n .kind) ≡ sort
 
 -- all that a command is lent
-pub record Lent (file : List ℕ) (nodes : ℕ) (costs public : List ℕ) (amounts : List ℤ) (presence labels trace : List ℕ) (used : ℕ) : Type 0 where
+pub record Lent (file : List ℕ) (nodes : ℕ) (costs public trace : List ℕ) (used : ℕ) : Type 0 where
   pub ready : Ready file nodes costs
-  pub cells : Lengths amounts presence labels
   pub public-is : public ≡ public-set (decode file)
   pub short : length trace ≤ 65536
   pub room : used ≤ length trace

@@ -35,8 +35,7 @@ use Rattle.traces.proofs.Records.{tell-full, tell-writes}
 
 -- ---- what the code reads and tests
 
-module _ {file : List ℕ} {nodes : ℕ} {costs public : List ℕ} {amounts : List ℤ} {presence labels trace : List ℕ} {used n : ℕ}
-    (l : Lent file nodes costs public amounts presence labels trace used) (nd : Node sorts.command file n) where
+module _ {file : List ℕ} {nodes : ℕ} {costs public trace : List ℕ} {used n : ℕ} (l : Lent file nodes costs public trace used) (nd : Node sorts.command file n) where
   abbrev at : ℕ
   at = nodes + 16 * n
 

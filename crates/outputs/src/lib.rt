@@ -21,13 +21,13 @@ pub fn out(
     read: &[[u64; 8]; 8],
     vars: &[i32; 16],
     tags: &[u64; 128],
-    amounts: &[i32],
-    presence: &[u64],
-    labels: &[u64],
+    amounts: &[i32; 512],
+    presence: &[u64; 8],
+    labels: &[u64; 4096],
     trace: &mut [u8],
     used: usize,
 ) -> Ran
-    requires { ⌜ Lent (now file) nodes (now costs) (now public) (now amounts) (now presence) (now labels) (now trace) used ⌝ }
+    requires { ⌜ Lent (now file) nodes (now costs) (now public) (now trace) used ⌝ }
     requires { ⌜ Node command (now file) n × (node-at (decode (now file)) n .kind ≡ 23) ⌝ }
     ensures { λ r. ⌜ Tells (now (file .entry)) (now (ctx .entry)) n left used (vars-of (now (vars .entry)) (now (tags .entry)))
         (now (amounts .entry)) (now (presence .entry)) (now (labels .entry)) (now (read .entry)) (now (trace .entry)) r (now (trace .exit)) ⌝ }

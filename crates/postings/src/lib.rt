@@ -5,7 +5,6 @@ ghost use mathlib.Core.Bool.{cond, true};
 ghost use Prim.Native.Nat.{_<_};
 ghost use lib.Dec.{eqb};
 ghost use lib.Bits.{bitOr, bitAnd, bitXor};
-ghost use Rattle.book.specs.Start.{Lengths};
 ghost use Rattle.monitor.specs.Run.{update};
 ghost use Rattle.monitor.specs.Rules.{key-place, in-table};
 ghost use Rattle.monitor.specs.Call.{cells-of};
@@ -49,20 +48,22 @@ fn marked(event: u8, word: u64, bit: u64) -> u64
     word ^ (word & bit)
 }
 
-// The cell at `place` becomes an amount, or absent, with a label.
+// The cell at `place` becomes an amount, or absent, with a label. The two slices tell the proof how long the arrays are.
 fn store_cell(
-    amounts: &mut [i32],
-    presence: &mut [u64],
-    labels: &mut [u64],
+    amounts: &mut [i32; 512],
+    presence: &mut [u64; 8],
+    labels: &mut [u64; 4096],
     place: usize,
     event: u8,
     amount: i32,
     label: [u64; 8],
 )
-    requires { ⌜ (place < 512) × Lengths (now amounts) (now presence) (now labels) ⌝ }
+    requires { ⌜ place < 512 ⌝ }
     ensures { λ _. ⌜ cells-of (now (amounts .exit)) (now (presence .exit)) (now (labels .exit))
         ≡ update (cells-of (now (amounts .entry)) (now (presence .entry)) (now (labels .entry))) place (record { val = cell event amount; lab = label }) ⌝ }
 {
+    let all_amounts: &[i32] = amounts;
+    let all_words: &[u64] = presence;
     amounts[place] = amount;
     let word = place / 64;
     let one = places::single(place);
@@ -84,11 +85,11 @@ pub fn post(
     amount: i32,
     label: &[u64; 8],
     write: &[[u64; 8]; 8],
-    amounts: &mut [i32],
-    presence: &mut [u64],
-    labels: &mut [u64],
+    amounts: &mut [i32; 512],
+    presence: &mut [u64; 8],
+    labels: &mut [u64; 4096],
 ) -> Posted
-    requires { ⌜ (user < 8) × (table < 8) × Lengths (now amounts) (now presence) (now labels) ⌝ }
+    requires { ⌜ (user < 8) × (table < 8) ⌝ }
     ensures { λ r. ⌜ Posts n (now (ctx .entry)) user table (key-of owner line) (record { val = cell event amount; lab = now (label .entry) }) (now (write .entry))
         (cells-of (now (amounts .entry)) (now (presence .entry)) (now (labels .entry))) r (cells-of (now (amounts .exit)) (now (presence .exit)) (now (labels .exit))) ⌝ }
 {

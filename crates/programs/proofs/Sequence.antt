@@ -88,15 +88,7 @@ module _ (file : List ℕ) (i : ℕ) {x : Store} {left used : ℕ} where
 
 -- ---- what is lent on
 
--- what a run was lent is fit for the next: it leaves every length as it was
-pub lent-on : {file : List ℕ} {nodes : ℕ} {costs public : List ℕ} {amounts amounts' : List ℤ} {presence presence' labels labels' trace trace' : List ℕ} {used next : ℕ}
-    → Lent file nodes costs public amounts presence labels trace used
-    → length amounts' ≡ length amounts → length presence' ≡ length presence → length labels' ≡ length labels → length trace' ≡ length trace
-    → next ≤ length trace → Lent file nodes costs public amounts' presence' labels' trace' next
-lent-on l a p b t h = record {
-  ready = l .ready;
-  cells = record { amounts-are = a ∙ l .cells .amounts-are; presence-is = p ∙ l .cells .presence-is; labels-are = b ∙ l .cells .labels-are };
-  public-is = l .public-is;
-  short = omega (arith, t, l .short);
-  room = omega (arith, t, h);
-}
+-- what a run was lent is fit for the next: it leaves the trace as long as it was
+pub lent-on : {file : List ℕ} {nodes : ℕ} {costs public trace trace' : List ℕ} {used next : ℕ} → Lent file nodes costs public trace used
+    → length trace' ≡ length trace → next ≤ length trace → Lent file nodes costs public trace' next
+lent-on l t h = record { ready = l .ready; public-is = l .public-is; short = omega (arith, t, l .short); room = omega (arith, t, h) }

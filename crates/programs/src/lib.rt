@@ -18,13 +18,13 @@ fn program(
     left: u32,
     read: &mut [[u64; 8]; 8],
     write: &mut [[u64; 8]; 8],
-    amounts: &mut [i32],
-    presence: &mut [u64],
-    labels: &mut [u64],
+    amounts: &mut [i32; 512],
+    presence: &mut [u64; 8],
+    labels: &mut [u64; 4096],
     trace: &mut [u8],
     used: usize,
 ) -> Ran
-    requires { ⌜ Lent (now file) nodes (now costs) (now public) (now amounts) (now presence) (now labels) (now trace) used ⌝ }
+    requires { ⌜ Lent (now file) nodes (now costs) (now public) (now trace) used ⌝ }
     requires { ⌜ i < count (now file) 4 ⌝ }
     ensures { λ r. ⌜ DoesAside (Program (now (file .entry)) i)
         (store (now (amounts .entry)) (now (presence .entry)) (now (labels .entry)) (now (read .entry)) (now (write .entry)) (now (trace .entry))) left used r
@@ -68,13 +68,13 @@ pub fn programs(
     left: u32,
     read: &mut [[u64; 8]; 8],
     write: &mut [[u64; 8]; 8],
-    amounts: &mut [i32],
-    presence: &mut [u64],
-    labels: &mut [u64],
+    amounts: &mut [i32; 512],
+    presence: &mut [u64; 8],
+    labels: &mut [u64; 4096],
     trace: &mut [u8],
     used: usize,
 ) -> Ran
-    requires { ⌜ Lent (now file) nodes (now costs) (now public) (now amounts) (now presence) (now labels) (now trace) used ⌝ }
+    requires { ⌜ Lent (now file) nodes (now costs) (now public) (now trace) used ⌝ }
     ensures { λ r. ⌜ DoesAside (Programs (now (file .entry)) i)
         (store (now (amounts .entry)) (now (presence .entry)) (now (labels .entry)) (now (read .entry)) (now (write .entry)) (now (trace .entry))) left used r
         (store (now (amounts .exit)) (now (presence .exit)) (now (labels .exit)) (now (read .exit)) (now (write .exit)) (now (trace .exit))) ⌝ }

@@ -7,7 +7,6 @@ ghost use Prim.Native.Nat.{_+_, _<_};
 ghost use Rattle.book.specs.Layout.{decode};
 ghost use Rattle.book.specs.Kinds.{command};
 ghost use Rattle.book.specs.Refusals.{node-at};
-ghost use Rattle.book.specs.Start.{Lengths};
 ghost use Rattle.monitor.specs.Call.{cells-of};
 ghost use Rattle.machine.specs.Ready.{Ready, Node};
 ghost use Rattle.machine.specs.Store.{vars-of};
@@ -36,11 +35,11 @@ fn new_amount(
     left: u32,
     vars: &[i32; 16],
     tags: &[u64; 128],
-    amounts: &[i32],
-    presence: &[u64],
-    labels: &[u64],
+    amounts: &[i32; 512],
+    presence: &[u64; 8],
+    labels: &[u64; 4096],
 ) -> Valued
-    requires { ⌜ Ready (now file) nodes (now costs) × Lengths (now amounts) (now presence) (now labels) ⌝ }
+    requires { ⌜ Ready (now file) nodes (now costs) ⌝ }
     requires { ⌜ Node command (now file) n × (node-at (decode (now file)) n .kind ≡ 20 + event) ⌝ }
     ensures { λ r. ⌜ Gives (NewAmount (now (file .entry)) n event) (cells-of (now (amounts .entry)) (now (presence .entry)) (now (labels .entry)))
         (vars-of (now (vars .entry)) (now (tags .entry))) left r ⌝ }
@@ -98,11 +97,11 @@ pub fn post(
     write: &[[u64; 8]; 8],
     vars: &[i32; 16],
     tags: &[u64; 128],
-    amounts: &mut [i32],
-    presence: &mut [u64],
-    labels: &mut [u64],
+    amounts: &mut [i32; 512],
+    presence: &mut [u64; 8],
+    labels: &mut [u64; 4096],
 ) -> Posting
-    requires { ⌜ Ready (now file) nodes (now costs) × Lengths (now amounts) (now presence) (now labels) ⌝ }
+    requires { ⌜ Ready (now file) nodes (now costs) ⌝ }
     requires { ⌜ Node command (now file) n × (user < 8) × (node-at (decode (now file)) n .kind ≡ 20 + event) × (0 < event) × (event < 3) ⌝ }
     ensures { λ r. ⌜ Writes (now (file .entry)) (now (ctx .entry)) user n event (vars-of (now (vars .entry)) (now (tags .entry)))
         (now (amounts .entry)) (now (presence .entry)) (now (labels .entry)) (now (write .entry)) left r

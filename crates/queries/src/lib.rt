@@ -2,7 +2,6 @@
 ghost use mathlib.Core.Path.{_≡_};
 ghost use Prim.Native.Nat.{_^_, _<_};
 ghost use lib.Signed.{mag};
-ghost use Rattle.book.specs.Start.{Lengths};
 ghost use Rattle.monitor.specs.Call.{cells-of};
 ghost use Rattle.queries.specs.Found.{box, found-in};
 ghost use Rattle.queries.specs.Tallies.{with-amount, value-of, first-from, first-above};
@@ -96,11 +95,11 @@ pub fn query(
     last: i32,
     low: i32,
     high: i32,
-    amounts: &[i32],
-    presence: &[u64],
-    labels: &[u64],
+    amounts: &[i32; 512],
+    presence: &[u64; 8],
+    labels: &[u64; 4096],
 ) -> Found
-    requires { ⌜ (table < 8) × Lengths (now amounts) (now presence) (now labels) ⌝ }
+    requires { ⌜ table < 8 ⌝ }
     ensures { λ r. ⌜ r ≡ found-in kind (cells-of (now (amounts .entry)) (now (presence .entry)) (now (labels .entry))) (box first last low high) table ⌝ }
 {
     let end_owner = first_above(last);

@@ -33,22 +33,27 @@ ended-result budget m Done obstacle records s = refl
 ended-result budget m (Stopped number node) obstacle records s = refl
 
 module _ (file : List ℕ) (budget : ℕ) (m : Memory) (l : Loaded file m) (read write : List (List ℕ))
-    (read-is : read ≡ read-sets (decode file)) (write-is : write ≡ write-sets (decode file)) where
+    (read-is : read ≡ read-sets (decode file)) (write-is : write ≡ write-sets (decode file))
+    {amounts : List ℤ} {presence labels : List ℕ} (amounts-are : amounts ≡ m .amounts) (presence-is : presence ≡ m .presence) (labels-are : labels ≡ m .labels) where
+  -- what the programs are lent: copies of the loaded cells, the rights and the trace
   abbrev start : Store
-  start = store (m .amounts) (m .presence) (m .labels) read write (m .trace)
+  start = store amounts presence labels read write (m .trace)
 
-  -- lent memory and rights are the start of the rules' run
+  -- it is the start of the rules' run
   starts : state (sixteen (lit (pos 0))) start budget 0 ≡ start-state (decode file) budget (length (m .trace) / 8)
   unfolding start-state start-cells start-rights
-  starts = rw (l .amounts-are, l .presence-is, l .labels-are, read-is, write-is, sub-zero (length (m .trace)))
+  starts = rw (amounts-are, presence-is, labels-are, l .amounts-are, l .presence-is, l .labels-are, read-is, write-is, sub-zero (length (m .trace)))
 
   -- the book's run, with the budget for fuel, is that of its programs
   runs : Programs file 0 budget (state (sixteen (lit (pos 0))) start budget 0) ≡ run-book true (decode file) budget (length (m .trace) / 8)
   unfolding run-book run
   runs = ap (Programs file 0 budget) starts
 
-  module _ {r : Ran} {x : Store} (d : DoesAside (Programs file 0) start budget 0 r x) (h : Sizes (x .amounts) (x .presence) (x .labels)) where
-    pub run-gives : result (answer-of r budget) (lent (x .amounts) (x .presence) (x .labels) (x .trace)) ≡ answered true file budget m Accepted
+  -- and what they leave, copied back, is what the call leaves
+  module _ {r : Ran} {x : Store} (d : DoesAside (Programs file 0) start budget 0 r x) {amounts' : List ℤ} {presence' labels' : List ℕ}
+      (same-amounts : amounts' ≡ x .amounts) (same-presence : presence' ≡ x .presence) (same-labels : labels' ≡ x .labels)
+      (h : Sizes amounts' presence' labels') where
+    pub run-gives : result (answer-of r budget) (lent amounts' presence' labels' (x .trace)) ≡ answered true file budget m Accepted
     unfolding answered memory-after with-records
     run-gives =
         let does = d .does (sixteen (lit (pos 0))) in
@@ -56,10 +61,11 @@ module _ (file : List ℕ) (budget : ℕ) (m : Memory) (l : Loaded file m) (read
         let is = ap (result-of budget m) end ∙ ended-result budget m (r .outcome) (does .obstacle) (does .records) (state (sixteen (lit (pos 0))) x (r .left) (r .used)) in
         let used : r .used ≡ 8 * length (does .records) = does .used-is ∙ zero-add (8 * length (does .records)) in
         let trace = does .trace-is ∙ ap (λ (k : ℕ). trace-bytes (does .records) ++ drop k (m .trace)) (zero-add (8 * length (does .records))) in
-        let amounts = sym (amounts-kept (x .amounts) (x .presence) (x .labels) h) in
-        let presence = sym (presence-kept (x .amounts) (x .presence) (x .labels) h) in
-        let labels = sym (labels-kept (x .amounts) (x .presence) (x .labels) h) in
-        (λ i. result (ended-as (r .outcome) (budget - r .left) (used i)) (lent (amounts i) (presence i) (labels i) (trace i))) ∙ sym is
+        let sizes : Sizes (x .amounts) (x .presence) (x .labels) = rw (sym same-amounts, sym same-presence, sym same-labels) h in
+        let amounts-kept = same-amounts ∙ sym (amounts-kept (x .amounts) (x .presence) (x .labels) sizes) in
+        let presence-kept = same-presence ∙ sym (presence-kept (x .amounts) (x .presence) (x .labels) sizes) in
+        let labels-kept = same-labels ∙ sym (labels-kept (x .amounts) (x .presence) (x .labels) sizes) in
+        (λ i. result (ended-as (r .outcome) (budget - r .left) (used i)) (lent (amounts-kept i) (presence-kept i) (labels-kept i) (trace i))) ∙ sym is
 
 -- loading leaves memory of the paper's lengths
 pub start-lengths : {file : List ℕ} {m : Memory} → Loaded file m → Lengths (m .amounts) (m .presence) (m .labels)

@@ -2,12 +2,31 @@
 use monitor::Answer;
 ghost use mathlib.Core.Path.{_≡_};
 ghost use mathlib.Core.Bool.{true};
+ghost use Rattle.book.specs.Start.{Lengths};
 ghost use Rattle.book.specs.declared.Verdict.the-variants.{Accepted};
 ghost use Rattle.monitor.specs.Call.{answered};
 ghost use Rattle.entry.specs.Entry.{lent, result, Runs};
 ghost use Rattle.runner.specs.Start.{Loaded};
 
-// Runs an accepted book whose start state is in lent memory.
+// Stores the cells that a run leaves in lent memory.
+fn store_cells(
+    values: &[i32; 512],
+    present: &[u64; 8],
+    tags: &[u64; 4096],
+    amounts: &mut [i32],
+    presence: &mut [u64],
+    labels: &mut [u64],
+)
+    requires { ⌜ Lengths (now amounts) (now presence) (now labels) ⌝ }
+    ensures { λ _. ⌜ (now (amounts .exit) ≡ now (values .entry)) × (now (presence .exit) ≡ now (present .entry)) × (now (labels .exit) ≡ now (tags .entry)) ⌝ }
+{
+    memory::copy_amounts(values, amounts);
+    memory::copy_words(present, presence);
+    memory::copy_words(tags, labels);
+}
+
+// Runs an accepted book whose start state is in lent memory. The run works on arrays, so that no function below asks for their lengths;
+// lent memory gets them back at the end.
 fn started(
     file: &[u8],
     budget: u32,
@@ -25,6 +44,12 @@ fn started(
     let public = rights::public_set(file);
     let mut read = rights::right_sets(file, 1);
     let mut write = rights::right_sets(file, 2);
+    let mut values = [0i32; 512];
+    let mut present = [0u64; 8];
+    let mut tags = [0u64; 4096];
+    memory::copy_amounts(amounts, &mut values);
+    memory::copy_words(presence, &mut present);
+    memory::copy_words(labels, &mut tags);
     let ran = programs::programs(
         file,
         nodes,
@@ -34,12 +59,13 @@ fn started(
         budget,
         &mut read,
         &mut write,
-        amounts,
-        presence,
-        labels,
+        &mut values,
+        &mut present,
+        &mut tags,
         trace,
         0,
     );
+    store_cells(&values, &present, &tags, amounts, presence, labels);
     entry::answer_of(ran, budget)
 }
 

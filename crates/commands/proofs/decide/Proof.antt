@@ -14,37 +14,37 @@ use Rattle.commands.proofs.decide.Tie as tie
 
 -- the node's record
 node : (s : tie.Start) → Read (s .args .file .now) (s .args .nodes + 16 * s .args .n) (node-at (decode (s .args .file .now)) (s .args .n))
-node s = command-read (s .pre .0 .0) (s .pre .1 .0)
+node s = command-read (s .pre .0) (s .pre .1 .0)
 
 mul-at : tie.Need-mul-at
 mul-at c =
-    let s = c .before .before .before in
+    let s = c .before in
     omega (arith, node s .end, node s .short)
 
 add-at : tie.Need-add-at
 add-at c =
-    let s = c .before .before .before in
+    let s = c .before in
     omega (arith, node s .end, node s .short)
 
 add-u16-at : tie.Need-add-u16-at
 add-u16-at c =
-    let s = c .before .before .before in
+    let s = c .before in
     omega (arith, node s .end, node s .short)
 
 u16-at-requires : tie.Need-u16-at-requires
 u16-at-requires c κs =
-    let s = c .before .before .before in
+    let s = c .before in
     omega (arith, node s .end, node s .short)
 
 eval-requires : tie.Need-eval-requires
 eval-requires c κs =
-    let s = c .before .before .before .before in
-    ((s .pre .0 .0, named-node (c .u16-at .ensures .0 ∙ node s .a) (test-node (s .pre .0 .0) (s .pre .1 .0) (s .pre .1 .1))), s .pre .0 .1)
+    let s = c .before .before in
+    (s .pre .0, named-node (c .u16-at .ensures .0 ∙ node s .a) (test-node (s .pre .0) (s .pre .1 .0) (s .pre .1 .1)))
 
 led-requires : tie.Need-led-requires
 led-requires c κs =
-    let s = c .before .before .before .before .before in
-    (s .pre .0 .0 .accepted, s .pre .0 .0 .nodes-start, s .pre .1 .0 .inside)
+    let s = c .before .before .before in
+    (s .pre .0 .accepted, s .pre .0 .nodes-start, s .pre .1 .0 .inside)
 
 union-requires : tie.Need-union-requires
 union-requires c κs = tt
@@ -54,7 +54,7 @@ returns c =
     let led = c .before .before .before in
     let evaluated = led .before in
     let located = evaluated .before in
-    let s = located .before .before .before .before in
+    let s = located .before .before in
     let a = s .args in
     record {
       given = evaluated .eval .result;

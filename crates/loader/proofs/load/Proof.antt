@@ -68,8 +68,11 @@ load-cells-requires c κs =
     let fit = sizes (told .before .before .before) in
     (accepted, fit .amounts-are)
 
-store-set-requires : tie.Need-store-set-requires
-store-set-requires c κs = search needs
+slice-aggregate-copy-words : tie.Need-slice-aggregate-copy-words
+slice-aggregate-copy-words c = search needs
+
+copy-words-requires : tie.Need-copy-words-requires
+copy-words-requires c κs = search needs
 
 own-labels-requires : tie.Need-own-labels-requires
 own-labels-requires c κs = search needs
@@ -85,11 +88,11 @@ same-length-3 c = search needs
 
 returns-5 : tie.Need-returns-5
 returns-5 c =
-    let told = c .before .before .before .before .before .before .before .before .before .before .before in
+    let told = c .before .before .before .before .before .before .before .before .before .before .before .before in
     let s = told .before .before .before .before .before .before .before .before .before in
     let fit = lent (sizes (told .before .before .before)) in
-    let cells = c .before .before .before .before .before .before .before .before .before .load-cells .ensures in
-    let presence = c .before .before .before .before .before .before .store-set .ensures in
+    let cells = c .before .before .before .before .before .before .before .before .before .before .load-cells .ensures in
+    let presence = c .before .before .before .before .before .before .copy-words .ensures in
     let labels = c .before .before .own-labels .ensures in
     load-accepted (s .args .file .now) (s .args .amounts .now) (s .args .presence .now) (s .args .labels .now) fit _ (told .before .before .inspect .ensures) _ _ _
     (told .enum-told .given .1)
@@ -109,7 +112,8 @@ load-spec =
     enum-told-2
     returns-4
     load-cells-requires
-    store-set-requires
+    slice-aggregate-copy-words
+    copy-words-requires
     own-labels-requires
     same-length
     same-length-2

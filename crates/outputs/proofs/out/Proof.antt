@@ -28,28 +28,28 @@ variables s = vars-of (s .args .vars .now) (s .args .tags .now)
 
 mul-at : tie.Need-mul-at
 mul-at c =
-    let s = c .before .before .before .before in
+    let s = c .before .before in
     omega (arith, read s .end, read s .short)
 
 add-at : tie.Need-add-at
 add-at c =
-    let s = c .before .before .before .before in
+    let s = c .before .before in
     omega (arith, read s .end, read s .short)
 
 add-u16-at : tie.Need-add-u16-at
 add-u16-at c =
-    let s = c .before .before .before .before in
+    let s = c .before .before in
     omega (arith, read s .end, read s .short)
 
 u16-at-requires : tie.Need-u16-at-requires
 u16-at-requires c κs =
-    let s = c .before .before .before .before in
+    let s = c .before .before in
     omega (arith, read s .end)
 
 eval-requires : tie.Need-eval-requires
 eval-requires c κs =
-    let s = c .before .before .before .before .before in
-    ((s .pre .0 .ready, value-node (s .pre .0) (s .pre .1 .0) (s .pre .1 .1) (c .u16-at .ensures .0)), s .pre .0 .cells)
+    let s = c .before .before .before in
+    (s .pre .0 .ready, value-node (s .pre .0) (s .pre .1 .0) (s .pre .1 .1) (c .u16-at .ensures .0))
 
 enum-known-answer : tie.Need-enum-known-answer
 enum-known-answer c = search needs
@@ -65,18 +65,18 @@ returns : tie.Need-returns
 returns c =
     let value = c .before .before .before in
     let child = value .before in
-    let s = child .before .before .before .before .before in
+    let s = child .before .before .before in
     out-fails _ _ _ _ _ (variables s) _ _ _ _ _ (s .pre .1 .1) (child .u16-at .ensures .0 ∙ read s .a) (value .eval .ensures) (s .pre .0 .room)
     _ _ (c .before .enum-told .given .1) (c .failed .ensures)
 
 add-byte-at : tie.Need-add-byte-at
 add-byte-at c =
-    let s = c .before .before .before .before .before .before .before .before .before in
+    let s = c .before .before .before .before .before .before .before in
     omega (arith, read s .end, read s .short)
 
 byte-at-requires : tie.Need-byte-at-requires
 byte-at-requires c κs =
-    let s = c .before .before .before .before .before .before .before .before .before in
+    let s = c .before .before .before .before .before .before .before in
     omega (arith, read s .end)
 
 union-requires : tie.Need-union-requires
@@ -88,7 +88,7 @@ mul-union c = search needs
 element-copy-out-union : tie.Need-element-copy-out-union
 element-copy-out-union c =
     let user = c .before .before .before .before in
-    let s = user .before .before .before .before .before .before .before .before .before .before in
+    let s = user .before .before .before .before .before .before .before .before in
     user-below (s .pre .0) (s .pre .1 .0) (s .pre .1 .1) (user .byte-at .ensures .0)
 
 union-requires-2 : tie.Need-union-requires-2
@@ -110,7 +110,7 @@ returns-2 c =
     let known = user .before .before in
     let value = known .before .before in
     let child = value .before in
-    let s = child .before .before .before .before .before in
+    let s = child .before .before .before in
     let fine =
     may-read (s .pre .0) (s .pre .1 .0) (s .args .ctx .now) (value .eval .result .label) (s .args .read .now)
     (test .within .ensures) (told .union .ensures) (bound .union2 .ensures) (user .byte-at .ensures .0) in
@@ -119,7 +119,7 @@ returns-2 c =
 
 add-if2 : tie.Need-add-if2
 add-if2 c =
-    let s = c .before .before .before .before .before .before .before .before .before .before .before .before .before .before .before .before .before .before in
+    let s = c .before .before .before .before .before .before .before .before .before .before .before .before .before .before .before .before in
     omega (arith, s .pre .0 .short, s .pre .0 .room)
 
 stopped-requires-2 : tie.Need-stopped-requires-2
@@ -135,7 +135,7 @@ returns-3 c =
     let known = user .before .before in
     let value = known .before .before in
     let child = value .before in
-    let s = child .before .before .before .before .before in
+    let s = child .before .before .before in
     let fine =
     may-read (s .pre .0) (s .pre .1 .0) (s .args .ctx .now) (value .eval .result .label) (s .args .read .now)
     (test .within .ensures) (told .union .ensures) (bound .union2 .ensures) (user .byte-at .ensures .0) in
@@ -162,7 +162,7 @@ put-record-requires c κs = search needs
 
 add-finished : tie.Need-add-finished
 add-finished c =
-    let s = c .before .before .before .before .before .before .before .before .before .before .before .before .before .before .before .before .before .before .before .before .before .before .before .before in
+    let s = c .before .before .before .before .before .before .before .before .before .before .before .before .before .before .before .before .before .before .before .before .before .before in
     omega (arith, s .pre .0 .short, s .pre .0 .room)
 
 finished-requires : tie.Need-finished-requires
@@ -183,7 +183,7 @@ returns-4 c =
     let known = user .before .before in
     let value = known .before .before in
     let child = value .before in
-    let s = child .before .before .before .before .before in
+    let s = child .before .before .before in
     let fine =
     may-read (s .pre .0) (s .pre .1 .0) (s .args .ctx .now) (value .eval .result .label) (s .args .read .now)
     (test .within .ensures) (told .union .ensures) (bound .union2 .ensures) (user .byte-at .ensures .0) in

@@ -14,13 +14,13 @@ is-key-requires c κs = search needs
 returns : tie.Need-returns
 returns c =
     let keyed = c .before in
-    let s = keyed .before .before .before in
+    let s = keyed .before in
     stops-23 (s .args .n) (s .args .ctx .now) (s .args .user) (s .args .table) (s .args .event) (s .args .amount) (s .args .label .now) (s .args .write .now)
     (s .args .amounts .now) (s .args .presence .now) (s .args .labels .now)
     (same-key (toZ-ofZ (s .fits .owner)) (toZ-ofZ (s .fits .line))) (keyed .is-key .ensures) (c .if1 .taken)
 
 place-of-requires : tie.Need-place-of-requires
-place-of-requires c κs = (c .before .before .before .before .pre .1, sym (c .before .is-key .ensures) ∙ not-false _ (c .if1 .left))
+place-of-requires c κs = (c .before .before .pre .1, sym (c .before .is-key .ensures) ∙ not-false _ (c .if1 .left))
 
 mul-contains : tie.Need-mul-contains
 mul-contains c = search needs
@@ -35,7 +35,7 @@ returns-2 : tie.Need-returns-2
 unfolding rows
 returns-2 c =
     let keyed = c .before .before .before .before .before in
-    let s = keyed .before .before .before in
+    let s = keyed .before in
     stops-24 (s .args .n) (s .args .ctx .now) (s .args .user) (s .args .table) (s .args .event) (s .args .amount) (s .args .label .now) (s .args .write .now)
     (s .args .amounts .now) (s .args .presence .now) (s .args .labels .now)
     (same-key (toZ-ofZ (s .fits .owner)) (toZ-ofZ (s .fits .line))) (keyed .is-key .ensures) (c .before .before .before .before .if1 .left)
@@ -47,16 +47,13 @@ label-at-requires c κs = search needs
 within-requires : tie.Need-within-requires
 within-requires c κs = search needs
 
-same-length : tie.Need-same-length
-same-length c = search needs
-
 returns-3 : tie.Need-returns-3
 unfolding rows
 returns-3 c =
-    let allowed = c .before .before .before .before .before in
+    let allowed = c .before .before .before .before .before .before in
     let placed = allowed .before .before .before in
     let keyed = placed .before .before in
-    let s = keyed .before .before .before in
+    let s = keyed .before in
     stops-26 (s .args .n) (s .args .ctx .now) (s .args .user) (s .args .table) (s .args .event) (s .args .amount) (s .args .label .now) (s .args .write .now)
     (s .args .amounts .now) (s .args .presence .now) (s .args .labels .now)
     (same-key (toZ-ofZ (s .fits .owner)) (toZ-ofZ (s .fits .line))) (keyed .is-key .ensures) (placed .before .if1 .left)
@@ -69,31 +66,21 @@ union-requires c κs = search needs
 store-cell-requires : tie.Need-store-cell-requires
 store-cell-requires c κs = search needs
 
-same-length-2 : tie.Need-same-length-2
-same-length-2 c = search needs
-
-same-length-3 : tie.Need-same-length-3
-same-length-3 c = search needs
-
-same-length-4 : tie.Need-same-length-4
-same-length-4 c = search needs
-
 returns-4 : tie.Need-returns-4
 unfolding rows
 returns-4 c =
-    let stored = c .before .before .before .before .before in
-    let tested = stored .before .before .before .before .before .before .before in
-    let allowed = tested .before .before .before .before in
+    let tested = c .before .before .before .before .before .before .before in
+    let allowed = tested .before .before .before .before .before in
     let placed = allowed .before .before .before in
     let keyed = placed .before .before in
-    let s = keyed .before .before .before in
+    let s = keyed .before in
     posts (s .args .n) (s .args .ctx .now) (s .args .user) (s .args .table) (s .args .event) (s .args .amount) (s .args .label .now) (s .args .write .now)
     (s .args .amounts .now) (s .args .presence .now) (s .args .labels .now)
     (same-key (toZ-ofZ (s .fits .owner)) (toZ-ofZ (s .fits .line))) (keyed .is-key .ensures) (placed .before .if1 .left)
     (placed .place-of .ensures .0) (allowed .before .contains .ensures) (allowed .if2 .left)
     (tested .before .label-at .ensures) (tested .within .ensures)
-    (stored .store-cell .last .0) (stored .store-cell .last .1 .0) (stored .store-cell .last .1 .1 .0) (stored .before .before .before .before .before .before .if3 .left)
-    (placed .place-of .ensures .1) (toZ-ofZ (s .fits .amount)) (stored .before .before .before .before .union .ensures) (stored .store-cell .ensures)
+    (c .store-cell .last .0) (c .store-cell .last .1 .0) (c .store-cell .last .1 .1 .0) (c .before .before .before .before .before .before .if3 .left)
+    (placed .place-of .ensures .1) (toZ-ofZ (s .fits .amount)) (c .before .before .before .before .union .ensures) (c .store-cell .ensures)
 
 pub post-spec : {M : Type 1} → statement M
 post-spec =
@@ -108,11 +95,7 @@ post-spec =
     returns-2
     label-at-requires
     within-requires
-    same-length
     returns-3
     union-requires
     store-cell-requires
-    same-length-2
-    same-length-3
-    same-length-4
     returns-4)

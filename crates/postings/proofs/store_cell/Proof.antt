@@ -1,5 +1,6 @@
 -- `postings::store_cell` meets its contract.
 use mathlib.Core.Path.{_≡_}
+use native.Mathlib.Omega.{arith}
 use borrow.Author.Needs.{needs}
 use lib.ListN.{length}
 use mir.Facts.{toZ-ofZ}
@@ -10,8 +11,8 @@ use Rattle.postings.proofs.store_cell.Tie as tie
 mul-amount : tie.Need-mul-amount
 mul-amount c = search needs
 
-slice-set-from-amount : tie.Need-slice-set-from-amount
-slice-set-from-amount c = search needs
+element-set-from-amount : tie.Need-element-set-from-amount
+element-set-from-amount c = search needs
 
 single-requires : tie.Need-single-requires
 single-requires c κs = search needs
@@ -19,8 +20,8 @@ single-requires c κs = search needs
 mul-marked : tie.Need-mul-marked
 mul-marked c = search needs
 
-slice-read-marked : tie.Need-slice-read-marked
-slice-read-marked c = search needs
+element-copy-out-marked : tie.Need-element-copy-out-marked
+element-copy-out-marked c = search needs
 
 mul-marked-2 : tie.Need-mul-marked-2
 mul-marked-2 c = search needs
@@ -34,51 +35,41 @@ marked-requires c κs = search needs
 mul-presence : tie.Need-mul-presence
 mul-presence c = search needs
 
-slice-write-presence : tie.Need-slice-write-presence
-slice-write-presence c = search needs
+element-write-presence : tie.Need-element-write-presence
+element-write-presence c = search needs
 
 set-label-requires : tie.Need-set-label-requires
 set-label-requires c κs = search needs
 
-same-length : tie.Need-same-length
-same-length c = search needs
-
-same-length-2 : tie.Need-same-length-2
-same-length-2 c = search needs
-
-same-length-3 : tie.Need-same-length-3
-same-length-3 c = search needs
-
 returns : tie.Need-returns
 returns c =
-    let s = c .before .before .before .before .before .before .before .before .before in
+    let counted = c .before .before .before .before .before .before .before in
+    let worded = c .before .before .before .before .before in
+    let s = counted .before .before in
     let n : length (s .args .label) ≡ 8 = s .good .1 .1 .1 .1 .1 .1 .0 .1 .0 .1 in
-    let l = s .pre .1 in
+    let l : length (s .args .labels .now) ≡ 4096 = omega (arith, c .before .set-label-arg .given .0) in
     rw (
       toZ-ofZ (s .fits .amount),
-      c .before .before .before .before .marked .ensures,
-      c .before .before .before .before .before .before .single .ensures,
-      c .before .before .set-label .ensures,
+      c .before .before .marked .ensures,
+      c .before .before .before .before .single .ensures,
+      c .set-label .ensures,
     )
-    (cell-stored (s .args .presence .now) (s .args .place) (s .pre .0) (l .presence-is) (s .args .amounts .now) (s .args .labels .now)
-    (s .args .event) (s .args .amount) (s .args .label) (l .amounts-are) (l .labels-are) n)
+    (cell-stored (s .args .presence .now) (s .args .place) (s .pre) (worded .all-words2 .given .0) (s .args .amounts .now) (s .args .labels .now)
+    (s .args .event) (s .args .amount) (s .args .label) (counted .all-amounts2 .given .0) l n)
 
 pub store-cell-spec : {M : Type 1} → statement M
 store-cell-spec =
     tie.close
     (tie.spec
     mul-amount
-    slice-set-from-amount
+    element-set-from-amount
     single-requires
     mul-marked
-    slice-read-marked
+    element-copy-out-marked
     mul-marked-2
     array-read-marked
     marked-requires
     mul-presence
-    slice-write-presence
+    element-write-presence
     set-label-requires
-    same-length
-    same-length-2
-    same-length-3
     returns)

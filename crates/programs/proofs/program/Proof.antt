@@ -14,16 +14,16 @@ use Rattle.programs.proofs.program.Tie as tie
 
 section-at-requires : tie.Need-section-at-requires
 section-at-requires c κs =
-    let s = c .before .before .before .before in
+    let s = c .before .before in
     let z = placed (s .args .file .now) (s .pre .0 .ready .accepted) in
     (lit< tt, z .long, z .back 4 (lit< tt))
 
 -- the program's record in the file
 read-at : (c : tie.After-section-at)
-    → let s = c .before .before .before .before .before in
+    → let s = c .before .before .before in
     ProgramRead (s .args .file .now) (c .section-at .result .start + 4 * s .args .i) (getD (decode (s .args .file .now) .programs) (s .args .i) no-program)
 read-at c =
-    let s = c .before .before .before .before .before in
+    let s = c .before .before .before in
     program-read-at (s .args .file .now) (s .pre .0 .ready .accepted) (s .args .i) (s .pre .1) (c .section-at .result) (c .section-at .ensures)
 
 mul-at : tie.Need-mul-at
@@ -43,7 +43,7 @@ u16-at-requires c κs = omega (arith, read-at (c .before .before) .end)
 
 -- what is read there is the program's user and root
 named : (c : tie.After-u16-at)
-    → let s = c .before .before .before .before .before .before .before .before in
+    → let s = c .before .before .before .before .before .before in
     let program = getD (decode (s .args .file .now) .programs) (s .args .i) no-program in
     (c .before .byte-at .result ≡ program .user) × (c .u16-at .result ≡ program .root)
 named c =
@@ -54,25 +54,16 @@ exec-requires : tie.Need-exec-requires
 exec-requires c κs =
     let bytes = c .before .before .before .before .before .before .before .before .before in
     let at = read-at (bytes .before .before .before) in
-    (bytes .before .before .before .before .before .before .before .before .pre .0, (rw (named bytes .1) (at .root-command), rw (named bytes .0) (at .user-below)))
+    (bytes .before .before .before .before .before .before .pre .0, (rw (named bytes .1) (at .root-command), rw (named bytes .0) (at .user-below)))
 
 same-length : tie.Need-same-length
-same-length c = c .before .before .before .before .before .before .before .exec .kept .1 .1 .1 .1 .1 .1 .1 .1 .1 .1 .1 .1 .1 .0
-
-same-length-2 : tie.Need-same-length-2
-same-length-2 c = c .before .before .before .before .before .before .before .exec .kept .1 .1 .1 .1 .1 .1 .1 .1 .1 .1 .1 .1 .1 .1 .0
-
-same-length-3 : tie.Need-same-length-3
-same-length-3 c = c .before .before .before .before .before .before .before .exec .kept .1 .1 .1 .1 .1 .1 .1 .1 .1 .1 .1 .1 .1 .1 .1 .0
-
-same-length-4 : tie.Need-same-length-4
-same-length-4 c = c .before .before .before .before .before .before .before .exec .kept .1 .1 .1 .1 .1 .1 .1 .1 .1 .1 .1 .1 .1 .1 .1 .1 .0
+same-length c = c .before .before .exec .kept .1 .1 .1 .1 .1 .1 .1 .1 .1 .1 .1 .1 .1 .1 .1 .1 .0
 
 returns : tie.Need-returns
 returns c =
-    let ran = c .before .before .before .before .before .before .before in
+    let ran = c .before .before in
     let bytes = ran .before .before .before .before .before .before .before .before .before .before in
-    let s = bytes .before .before .before .before .before .before .before .before in
+    let s = bytes .before .before .before .before .before .before in
     program-does (s .args .file .now) (s .args .i) _ _ (named bytes .0) (named bytes .1) fresh-vars (ran .exec .ensures)
 
 pub program-spec : {M : Type 1} → statement M
@@ -87,7 +78,4 @@ program-spec =
     u16-at-requires
     exec-requires
     same-length
-    same-length-2
-    same-length-3
-    same-length-4
     returns)

@@ -34,7 +34,7 @@ abbrev μ-loop : tie.MeasureT-loop
 
 -- a line of the box
 line-to : (c : tie.In-loop2 Inv-loop2 μ-loop2 Inv-loop μ-loop)
-    → c .before .loop2 .line < first-above (toZ w32 (ofZ w32 (c .before .before .before .before .before .before .before .before .before .before .before .args .high)))
+    → c .before .loop2 .line < first-above (toZ w32 (ofZ w32 (c .before .before .before .before .before .before .before .before .before .args .high)))
 line-to c = omega arith
 
 -- a bit of the table's word
@@ -53,8 +53,8 @@ first-above-requires-2 c κs = search needs
 mul-present : tie.Need-mul-present Inv-loop2 μ-loop2 Inv-loop μ-loop
 mul-present c = search needs
 
-shared-slice-read-present : tie.Need-shared-slice-read-present Inv-loop2 μ-loop2 Inv-loop μ-loop
-shared-slice-read-present c = search needs
+element-copy-out-present : tie.Need-element-copy-out-present Inv-loop2 μ-loop2 Inv-loop μ-loop
+element-copy-out-present c = search needs
 
 first-from-requires-2 : tie.Need-first-from-requires-2 Inv-loop2 μ-loop2 Inv-loop μ-loop
 first-from-requires-2 c κs = search needs
@@ -65,7 +65,7 @@ loop-holds c = to-first-owner _ _ _ _ _ _ (c .first-from2 .ensures)
 
 loop2-holds : tie.Need-loop2-holds Inv-loop2 μ-loop2 Inv-loop μ-loop
 loop2-holds c =
-    let s = c .before .before .before .before .before .before .before .before .before in
+    let s = c .before .before .before .before .before .before .before in
     let owner-to : c .before .loop .owner < first-above (toZ w32 (ofZ w32 (s .args .last))) = omega arith in
     to-first-line _ _ _ _ _ _ owner-to (c .before .before .before .before .before .first-from .ensures) (c .before .loop .inv)
 
@@ -82,24 +82,24 @@ add-place : tie.Need-add-place Inv-loop2 μ-loop2 Inv-loop μ-loop
 add-place c = search needs
 
 label-at-requires : tie.Need-label-at-requires Inv-loop2 μ-loop2 Inv-loop μ-loop
-label-at-requires c κs = omega (arith, bit-below c)
+label-at-requires c κs = omega (arith, bit-below (c .before), c .label-at-arg .given .0)
 
 union-requires : tie.Need-union-requires Inv-loop2 μ-loop2 Inv-loop μ-loop
 union-requires c κs = search needs
 
 shr-if1 : tie.Need-shr-if1 Inv-loop2 μ-loop2 Inv-loop μ-loop
-shr-if1 c = bit-below (c .before .before)
+shr-if1 c = bit-below (c .before .before .before)
 
 mul-counted : tie.Need-mul-counted Inv-loop2 μ-loop2 Inv-loop μ-loop
 mul-counted c = search needs
 
-shared-slice-copy-out-counted :
-    tie.Need-shared-slice-copy-out-counted Inv-loop2 μ-loop2 Inv-loop μ-loop
-shared-slice-copy-out-counted c = omega (arith, bit-below (c .before .before .before))
+element-copy-out-counted :
+    tie.Need-element-copy-out-counted Inv-loop2 μ-loop2 Inv-loop μ-loop
+element-copy-out-counted c = omega (arith, bit-below (c .before .before .before .before))
 
 counted-requires : tie.Need-counted-requires Inv-loop2 μ-loop2 Inv-loop μ-loop
 counted-requires c κs =
-    let k = c .before .before .before .before in
+    let k = c .before .before .before .before .before in
     let p = k .before .loop2 .inv .swept in
     omega (arith, bit-below k, p .few, p .small .sum-small)
 
@@ -111,8 +111,8 @@ loop2-less c = search needs
 
 loop2-again : tie.Need-loop2-again Inv-loop2 μ-loop2 Inv-loop μ-loop
 loop2-again c =
-    let k = c .before .before .before in
-    let a = k .before .before .before .before .before .before .before .before .before .before .before .args in
+    let k = c .before .before .before .before in
+    let a = k .before .before .before .before .before .before .before .before .before .args in
     let joined = c .before .union .ensures ∙ ap (union (k .before .loop2 .label)) (c .before .before .label-at .ensures) in
     ⊎-elim
     (λ w.
@@ -129,7 +129,7 @@ loop-less c = search needs
 
 loop-again : tie.Need-loop-again Inv-loop2 μ-loop2 Inv-loop μ-loop
 loop-again c =
-    let s = c .before .before .before .before .before .before .before .before .before .before .before in
+    let s = c .before .before .before .before .before .before .before .before .before in
     let past : first-above (toZ w32 (ofZ w32 (s .args .high))) ≤ c .before .loop2 .line = omega arith in
     to-next-owner _ _ _ _ _ _ past (c .before .loop2 .inv)
 
@@ -138,7 +138,7 @@ valued-requires c κs = search needs
 
 returns : tie.Need-returns Inv-loop2 μ-loop2 Inv-loop μ-loop
 returns c =
-    let s = c .before .before .before .before .before .before .before .before .before .before in
+    let s = c .before .before .before .before .before .before .before .before in
     let o = c .before .before .loop in
     let past : first-above (toZ w32 (ofZ w32 (s .args .last))) ≤ o .owner = omega arith in
     let value = toZ-ofZ (record { sfits = c .valued .ok }) ∙ c .valued .ensures in
@@ -157,7 +157,7 @@ query-spec =
     first-from-requires
     first-above-requires-2
     mul-present
-    shared-slice-read-present
+    element-copy-out-present
     first-from-requires-2
     loop-holds
     loop2-holds
@@ -169,7 +169,7 @@ query-spec =
     union-requires
     shr-if1
     mul-counted
-    shared-slice-copy-out-counted
+    element-copy-out-counted
     counted-requires
     add-line
     loop2-less

@@ -11,10 +11,10 @@ use Rattle.commands.proofs.+branch+exec+fire+post+repeat+sequence.Proof
 
 pub branch-decide-requires : (t : ℕ) → branch-lts.Need-decide-requires (branch-cs t) (branch-at t) branch.Post
 branch-decide-requires t c κs =
-    let start = c .before .before .before .before .before .before .before .before .before in
+    let start = c .before .before .before .before .before .before .before in
     let lent = start .pre .1 .0 in
     let mine = start .pre .1 .1 in
-    ((lent .ready, lent .cells), (mine .0, ap (between 19 20) (mine .2)))
+    (lent .ready, (mine .0, ap (between 19 20) (mine .2)))
 
 pub branch-enum-known-next : (t : ℕ) → branch-lts.Need-enum-known-next (branch-cs t) (branch-at t) branch.Post
 branch-enum-known-next t c = c .match .keys1
@@ -25,20 +25,11 @@ branch-enum-told t c = c .match .keys2
 pub branch-ended-requires : (t : ℕ) → branch-lts.Need-ended-requires (branch-cs t) (branch-at t) branch.Post
 branch-ended-requires t c κs = tt
 
-pub branch-same-length : (t : ℕ) → branch-lts.Need-same-length (branch-cs t) (branch-at t) branch.Post
-branch-same-length t c = refl
-
-pub branch-same-length-2 : (t : ℕ) → branch-lts.Need-same-length-2 (branch-cs t) (branch-at t) branch.Post
-branch-same-length-2 t c = refl
-
-pub branch-same-length-3 : (t : ℕ) → branch-lts.Need-same-length-3 (branch-cs t) (branch-at t) branch.Post
-branch-same-length-3 t c = refl
-
 pub branch-returns : (t : ℕ) → branch-lts.Need-returns (branch-cs t) (branch-at t) branch.Post
 branch-returns t c =
     let after-enum-told = c .before in
     let after-decide = after-enum-told .before .before in
-    let start = after-decide .before .before .before .before .before .before .before .before .before .before in
+    let start = after-decide .before .before .before .before .before .before .before .before in
     let a = start .args in
     let lent = start .pre .1 .0 in
     let mine = start .pre .1 .1 in
@@ -48,38 +39,23 @@ pub branch-exec-requires : (t : ℕ) → branch-lts.Need-exec-requires (branch-c
 branch-exec-requires t c κs =
     let after-next = c .before .before .before .before .before .before .before .before .before .before .before in
     let after-decide = after-next .before .before in
-    let start = after-decide .before .before .before .before .before .before .before .before .before .before in
+    let start = after-decide .before .before .before .before .before .before .before .before in
     let a = start .args in
     let lent = start .pre .1 .0 in
     let mine = start .pre .1 .1 in
     (omega (arith, start .pre .0, decided-less (after-decide .decide .ensures)), (lent, (way-child (a .file .now) (a .ctx .now) (a .user) (a .above) (a .n) (mine .2) (store (a .amounts .now) (a .presence .now) (a .labels .now) (a .read .now) (a .write .now) (a .trace .now)) (a .used) (after-decide .decide .ensures) (after-next .next .given .1) (lent .ready .accepted) (mine .0 .inside), mine .1)))
 
-pub branch-same-length-4 : (t : ℕ) → branch-lts.Need-same-length-4 (branch-cs t) (branch-at t) branch.Post
-branch-same-length-4 t c =
-    let after-exec = c .before .before .before .before .before .before .before in
-    after-exec .exec .kept .1 .1 .1 .1 .1 .1 .1 .1 .1 .1 .1 .1 .1 .0
-
-pub branch-same-length-5 : (t : ℕ) → branch-lts.Need-same-length-5 (branch-cs t) (branch-at t) branch.Post
-branch-same-length-5 t c =
-    let after-exec = c .before .before .before .before .before .before .before in
-    after-exec .exec .kept .1 .1 .1 .1 .1 .1 .1 .1 .1 .1 .1 .1 .1 .1 .0
-
-pub branch-same-length-6 : (t : ℕ) → branch-lts.Need-same-length-6 (branch-cs t) (branch-at t) branch.Post
-branch-same-length-6 t c =
-    let after-exec = c .before .before .before .before .before .before .before in
-    after-exec .exec .kept .1 .1 .1 .1 .1 .1 .1 .1 .1 .1 .1 .1 .1 .1 .1 .0
-
-pub branch-same-length-7 : (t : ℕ) → branch-lts.Need-same-length-7 (branch-cs t) (branch-at t) branch.Post
-branch-same-length-7 t c =
-    let after-exec = c .before .before .before .before .before .before .before in
+pub branch-same-length : (t : ℕ) → branch-lts.Need-same-length (branch-cs t) (branch-at t) branch.Post
+branch-same-length t c =
+    let after-exec = c .before .before in
     after-exec .exec .kept .1 .1 .1 .1 .1 .1 .1 .1 .1 .1 .1 .1 .1 .1 .1 .1 .0
 
 pub branch-returns-2 : (t : ℕ) → branch-lts.Need-returns-2 (branch-cs t) (branch-at t) branch.Post
 branch-returns-2 t c =
-    let after-exec = c .before .before .before .before .before .before .before in
+    let after-exec = c .before .before in
     let after-next = after-exec .before .before .before .before .before .before .before .before .before .before .before .before in
     let after-decide = after-next .before .before in
-    let start = after-decide .before .before .before .before .before .before .before .before .before .before in
+    let start = after-decide .before .before .before .before .before .before .before .before in
     let a = start .args in
     let mine = start .pre .1 .1 in
     branch-goes (a .file .now) (a .ctx .now) (a .user) (a .above) (a .n) (mine .2) (store (a .amounts .now) (a .presence .now) (a .labels .now) (a .read .now) (a .write .now) (a .trace .now)) (a .used) (after-decide .decide .ensures) (after-next .next .given .1) (after-exec .exec .ensures)

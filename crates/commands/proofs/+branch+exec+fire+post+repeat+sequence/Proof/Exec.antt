@@ -11,7 +11,7 @@ use Rattle.commands.proofs.+branch+exec+fire+post+repeat+sequence.Proof
 
 pub exec-mul-kind : (t : ℕ) → exec-lts.Need-mul-kind (exec-cs t) (exec-at t) exec.Post
 exec-mul-kind t c =
-    let start = c .before .before .before .before in
+    let start = c .before .before in
     let lent = start .pre .1 .0 in
     let mine = start .pre .1 .1 in
     let node = command-read (lent .ready) (mine .0) in
@@ -19,7 +19,7 @@ exec-mul-kind t c =
 
 pub exec-add-kind : (t : ℕ) → exec-lts.Need-add-kind (exec-cs t) (exec-at t) exec.Post
 exec-add-kind t c =
-    let start = c .before .before .before .before in
+    let start = c .before .before in
     let lent = start .pre .1 .0 in
     let mine = start .pre .1 .1 in
     let node = command-read (lent .ready) (mine .0) in
@@ -27,7 +27,7 @@ exec-add-kind t c =
 
 pub exec-shared-slice-read-kind : (t : ℕ) → exec-lts.Need-shared-slice-read-kind (exec-cs t) (exec-at t) exec.Post
 exec-shared-slice-read-kind t c =
-    let start = c .before .before .before .before .before in
+    let start = c .before .before .before in
     let lent = start .pre .1 .0 in
     let mine = start .pre .1 .1 in
     let node = command-read (lent .ready) (mine .0) in
@@ -35,7 +35,7 @@ exec-shared-slice-read-kind t c =
 
 pub exec-cast-cost : (t : ℕ) → exec-lts.Need-cast-cost (exec-cs t) (exec-at t) exec.Post
 exec-cast-cost t c =
-    let start = c .before .before .before .before .before in
+    let start = c .before .before .before in
     let a = start .args in
     let lent = start .pre .1 .0 in
     let mine = start .pre .1 .1 in
@@ -44,7 +44,7 @@ exec-cast-cost t c =
 
 pub exec-mul-cost : (t : ℕ) → exec-lts.Need-mul-cost (exec-cs t) (exec-at t) exec.Post
 exec-mul-cost t c =
-    let start = c .before .before .before .before .before in
+    let start = c .before .before .before in
     let a = start .args in
     let lent = start .pre .1 .0 in
     let mine = start .pre .1 .1 in
@@ -53,7 +53,7 @@ exec-mul-cost t c =
 
 pub exec-element-copy-out-cost : (t : ℕ) → exec-lts.Need-element-copy-out-cost (exec-cs t) (exec-at t) exec.Post
 exec-element-copy-out-cost t c =
-    let start = c .before .before .before .before .before in
+    let start = c .before .before .before in
     let a = start .args in
     let lent = start .pre .1 .0 in
     let mine = start .pre .1 .1 in
@@ -66,7 +66,7 @@ exec-stopped-requires t c κs = tt
 pub exec-returns : (t : ℕ) → exec-lts.Need-returns (exec-cs t) (exec-at t) exec.Post
 exec-returns t c =
     let after-if1 = c .before in
-    let start = after-if1 .before .before .before .before .before .before .before in
+    let start = after-if1 .before .before .before .before .before in
     let a = start .args in
     let lent = start .pre .1 .0 in
     let mine = start .pre .1 .1 in
@@ -78,7 +78,7 @@ pub exec-sequence-requires : (t : ℕ) → exec-lts.Need-sequence-requires (exec
 exec-sequence-requires t c κs =
     let after-match = c .before .before .before .before .before .before .before .before in
     let after-if1 = after-match .before in
-    let start = after-if1 .before .before .before .before .before .before .before in
+    let start = after-if1 .before .before .before .before .before in
     let a = start .args in
     let lent = start .pre .1 .0 in
     let mine = start .pre .1 .1 in
@@ -90,7 +90,7 @@ pub exec-branch-requires : (t : ℕ) → exec-lts.Need-branch-requires (exec-cs 
 exec-branch-requires t c κs =
     let after-match = c .before .before .before .before .before .before .before .before in
     let after-if1 = after-match .before in
-    let start = after-if1 .before .before .before .before .before .before .before in
+    let start = after-if1 .before .before .before .before .before in
     let a = start .args in
     let lent = start .pre .1 .0 in
     let mine = start .pre .1 .1 in
@@ -102,7 +102,7 @@ pub exec-repeat-requires : (t : ℕ) → exec-lts.Need-repeat-requires (exec-cs 
 exec-repeat-requires t c κs =
     let after-match = c .before .before .before .before .before .before .before .before in
     let after-if1 = after-match .before in
-    let start = after-if1 .before .before .before .before .before .before .before in
+    let start = after-if1 .before .before .before .before .before in
     let a = start .args in
     let lent = start .pre .1 .0 in
     let mine = start .pre .1 .1 in
@@ -114,7 +114,7 @@ pub exec-post-requires : (t : ℕ) → exec-lts.Need-post-requires (exec-cs t) (
 exec-post-requires t c κs =
     let after-match = c .before .before .before .before .before .before .before .before in
     let after-if1 = after-match .before in
-    let start = after-if1 .before .before .before .before .before .before .before in
+    let start = after-if1 .before .before .before .before .before in
     let a = start .args in
     let lent = start .pre .1 .0 in
     let mine = start .pre .1 .1 in
@@ -126,7 +126,7 @@ pub exec-post-requires-2 : (t : ℕ) → exec-lts.Need-post-requires-2 (exec-cs 
 exec-post-requires-2 t c κs =
     let after-match = c .before .before .before .before .before .before .before .before in
     let after-if1 = after-match .before in
-    let start = after-if1 .before .before .before .before .before .before .before in
+    let start = after-if1 .before .before .before .before .before in
     let a = start .args in
     let lent = start .pre .1 .0 in
     let mine = start .pre .1 .1 in
@@ -137,7 +137,7 @@ exec-post-requires-2 t c κs =
 pub exec-act-requires : (t : ℕ) → exec-lts.Need-act-requires (exec-cs t) (exec-at t) exec.Post
 exec-act-requires t c κs =
     let after-match = c .before .before .before .before .before .before .before .before in
-    let start = after-match .before .before .before .before .before .before .before .before in
+    let start = after-match .before .before .before .before .before .before in
     let lent = start .pre .1 .0 in
     let mine = start .pre .1 .1 in
     let node = command-read (lent .ready) (mine .0) in
@@ -145,29 +145,14 @@ exec-act-requires t c κs =
 
 pub exec-same-length : (t : ℕ) → exec-lts.Need-same-length (exec-cs t) (exec-at t) exec.Post
 exec-same-length t c =
-    let after-sequence = c .before .before .before .before .before .before .before in
-    after-sequence .sequence .kept .1 .1 .1 .1 .1 .1 .1 .1 .1 .1 .1 .1 .1 .0
-
-pub exec-same-length-2 : (t : ℕ) → exec-lts.Need-same-length-2 (exec-cs t) (exec-at t) exec.Post
-exec-same-length-2 t c =
-    let after-sequence = c .before .before .before .before .before .before .before in
-    after-sequence .sequence .kept .1 .1 .1 .1 .1 .1 .1 .1 .1 .1 .1 .1 .1 .1 .0
-
-pub exec-same-length-3 : (t : ℕ) → exec-lts.Need-same-length-3 (exec-cs t) (exec-at t) exec.Post
-exec-same-length-3 t c =
-    let after-sequence = c .before .before .before .before .before .before .before in
-    after-sequence .sequence .kept .1 .1 .1 .1 .1 .1 .1 .1 .1 .1 .1 .1 .1 .1 .1 .0
-
-pub exec-same-length-4 : (t : ℕ) → exec-lts.Need-same-length-4 (exec-cs t) (exec-at t) exec.Post
-exec-same-length-4 t c =
-    let after-sequence = c .before .before .before .before .before .before .before in
+    let after-sequence = c .before .before in
     after-sequence .sequence .kept .1 .1 .1 .1 .1 .1 .1 .1 .1 .1 .1 .1 .1 .1 .1 .1 .0
 
 pub exec-returns-2 : (t : ℕ) → exec-lts.Need-returns-2 (exec-cs t) (exec-at t) exec.Post
 exec-returns-2 t c =
-    let after-sequence = c .before .before .before .before .before .before .before in
+    let after-sequence = c .before .before in
     let after-if1 = after-sequence .before .before .before .before .before .before .before .before .before .before in
-    let start = after-if1 .before .before .before .before .before .before .before in
+    let start = after-if1 .before .before .before .before .before in
     let a = start .args in
     let lent = start .pre .1 .0 in
     let mine = start .pre .1 .1 in
@@ -175,31 +160,16 @@ exec-returns-2 t c =
     let price = cost-known _ (lent .ready) (mine .0) (node .kind) in
     enters (a .file .now) (a .ctx .now) (a .user) (a .above) (a .n) price (omega (arith, after-if1 .if1 .left)) (after-sequence .sequence .ensures)
 
-pub exec-same-length-5 : (t : ℕ) → exec-lts.Need-same-length-5 (exec-cs t) (exec-at t) exec.Post
-exec-same-length-5 t c =
-    let after-branch = c .before .before .before .before .before .before .before in
-    after-branch .branch .kept .1 .1 .1 .1 .1 .1 .1 .1 .1 .1 .1 .1 .1 .0
-
-pub exec-same-length-6 : (t : ℕ) → exec-lts.Need-same-length-6 (exec-cs t) (exec-at t) exec.Post
-exec-same-length-6 t c =
-    let after-branch = c .before .before .before .before .before .before .before in
-    after-branch .branch .kept .1 .1 .1 .1 .1 .1 .1 .1 .1 .1 .1 .1 .1 .1 .0
-
-pub exec-same-length-7 : (t : ℕ) → exec-lts.Need-same-length-7 (exec-cs t) (exec-at t) exec.Post
-exec-same-length-7 t c =
-    let after-branch = c .before .before .before .before .before .before .before in
-    after-branch .branch .kept .1 .1 .1 .1 .1 .1 .1 .1 .1 .1 .1 .1 .1 .1 .1 .0
-
-pub exec-same-length-8 : (t : ℕ) → exec-lts.Need-same-length-8 (exec-cs t) (exec-at t) exec.Post
-exec-same-length-8 t c =
-    let after-branch = c .before .before .before .before .before .before .before in
+pub exec-same-length-2 : (t : ℕ) → exec-lts.Need-same-length-2 (exec-cs t) (exec-at t) exec.Post
+exec-same-length-2 t c =
+    let after-branch = c .before .before in
     after-branch .branch .kept .1 .1 .1 .1 .1 .1 .1 .1 .1 .1 .1 .1 .1 .1 .1 .1 .0
 
 pub exec-returns-3 : (t : ℕ) → exec-lts.Need-returns-3 (exec-cs t) (exec-at t) exec.Post
 exec-returns-3 t c =
-    let after-branch = c .before .before .before .before .before .before .before in
+    let after-branch = c .before .before in
     let after-if1 = after-branch .before .before .before .before .before .before .before .before .before .before in
-    let start = after-if1 .before .before .before .before .before .before .before in
+    let start = after-if1 .before .before .before .before .before in
     let a = start .args in
     let lent = start .pre .1 .0 in
     let mine = start .pre .1 .1 in
@@ -207,31 +177,16 @@ exec-returns-3 t c =
     let price = cost-known _ (lent .ready) (mine .0) (node .kind) in
     enters (a .file .now) (a .ctx .now) (a .user) (a .above) (a .n) price (omega (arith, after-if1 .if1 .left)) (after-branch .branch .ensures)
 
-pub exec-same-length-9 : (t : ℕ) → exec-lts.Need-same-length-9 (exec-cs t) (exec-at t) exec.Post
-exec-same-length-9 t c =
-    let after-repeat = c .before .before .before .before .before .before .before in
-    after-repeat .repeat .kept .1 .1 .1 .1 .1 .1 .1 .1 .1 .1 .1 .1 .1 .0
-
-pub exec-same-length-10 : (t : ℕ) → exec-lts.Need-same-length-10 (exec-cs t) (exec-at t) exec.Post
-exec-same-length-10 t c =
-    let after-repeat = c .before .before .before .before .before .before .before in
-    after-repeat .repeat .kept .1 .1 .1 .1 .1 .1 .1 .1 .1 .1 .1 .1 .1 .1 .0
-
-pub exec-same-length-11 : (t : ℕ) → exec-lts.Need-same-length-11 (exec-cs t) (exec-at t) exec.Post
-exec-same-length-11 t c =
-    let after-repeat = c .before .before .before .before .before .before .before in
-    after-repeat .repeat .kept .1 .1 .1 .1 .1 .1 .1 .1 .1 .1 .1 .1 .1 .1 .1 .0
-
-pub exec-same-length-12 : (t : ℕ) → exec-lts.Need-same-length-12 (exec-cs t) (exec-at t) exec.Post
-exec-same-length-12 t c =
-    let after-repeat = c .before .before .before .before .before .before .before in
+pub exec-same-length-3 : (t : ℕ) → exec-lts.Need-same-length-3 (exec-cs t) (exec-at t) exec.Post
+exec-same-length-3 t c =
+    let after-repeat = c .before .before in
     after-repeat .repeat .kept .1 .1 .1 .1 .1 .1 .1 .1 .1 .1 .1 .1 .1 .1 .1 .1 .0
 
 pub exec-returns-4 : (t : ℕ) → exec-lts.Need-returns-4 (exec-cs t) (exec-at t) exec.Post
 exec-returns-4 t c =
-    let after-repeat = c .before .before .before .before .before .before .before in
+    let after-repeat = c .before .before in
     let after-if1 = after-repeat .before .before .before .before .before .before .before .before .before .before in
-    let start = after-if1 .before .before .before .before .before .before .before in
+    let start = after-if1 .before .before .before .before .before in
     let a = start .args in
     let lent = start .pre .1 .0 in
     let mine = start .pre .1 .1 in
@@ -239,31 +194,16 @@ exec-returns-4 t c =
     let price = cost-known _ (lent .ready) (mine .0) (node .kind) in
     enters (a .file .now) (a .ctx .now) (a .user) (a .above) (a .n) price (omega (arith, after-if1 .if1 .left)) (after-repeat .repeat .ensures)
 
-pub exec-same-length-13 : (t : ℕ) → exec-lts.Need-same-length-13 (exec-cs t) (exec-at t) exec.Post
-exec-same-length-13 t c =
-    let after-post = c .before .before .before .before .before .before .before in
-    after-post .post .kept .1 .1 .1 .1 .1 .1 .1 .1 .1 .1 .1 .1 .1 .1 .0
-
-pub exec-same-length-14 : (t : ℕ) → exec-lts.Need-same-length-14 (exec-cs t) (exec-at t) exec.Post
-exec-same-length-14 t c =
-    let after-post = c .before .before .before .before .before .before .before in
-    after-post .post .kept .1 .1 .1 .1 .1 .1 .1 .1 .1 .1 .1 .1 .1 .1 .1 .0
-
-pub exec-same-length-15 : (t : ℕ) → exec-lts.Need-same-length-15 (exec-cs t) (exec-at t) exec.Post
-exec-same-length-15 t c =
-    let after-post = c .before .before .before .before .before .before .before in
-    after-post .post .kept .1 .1 .1 .1 .1 .1 .1 .1 .1 .1 .1 .1 .1 .1 .1 .1 .0
-
-pub exec-same-length-16 : (t : ℕ) → exec-lts.Need-same-length-16 (exec-cs t) (exec-at t) exec.Post
-exec-same-length-16 t c =
-    let after-post = c .before .before .before .before .before .before .before in
+pub exec-same-length-4 : (t : ℕ) → exec-lts.Need-same-length-4 (exec-cs t) (exec-at t) exec.Post
+exec-same-length-4 t c =
+    let after-post = c .before .before in
     after-post .post .kept .1 .1 .1 .1 .1 .1 .1 .1 .1 .1 .1 .1 .1 .1 .1 .1 .1 .0
 
 pub exec-returns-5 : (t : ℕ) → exec-lts.Need-returns-5 (exec-cs t) (exec-at t) exec.Post
 exec-returns-5 t c =
-    let after-post = c .before .before .before .before .before .before .before in
+    let after-post = c .before .before in
     let after-if1 = after-post .before .before .before .before .before .before .before .before .before .before in
-    let start = after-if1 .before .before .before .before .before .before .before in
+    let start = after-if1 .before .before .before .before .before in
     let a = start .args in
     let lent = start .pre .1 .0 in
     let mine = start .pre .1 .1 in
@@ -271,31 +211,16 @@ exec-returns-5 t c =
     let price = cost-known _ (lent .ready) (mine .0) (node .kind) in
     enters (a .file .now) (a .ctx .now) (a .user) (a .above) (a .n) price (omega (arith, after-if1 .if1 .left)) (after-post .post .ensures)
 
-pub exec-same-length-17 : (t : ℕ) → exec-lts.Need-same-length-17 (exec-cs t) (exec-at t) exec.Post
-exec-same-length-17 t c =
-    let after-post2 = c .before .before .before .before .before .before .before in
-    after-post2 .post2 .kept .1 .1 .1 .1 .1 .1 .1 .1 .1 .1 .1 .1 .1 .1 .0
-
-pub exec-same-length-18 : (t : ℕ) → exec-lts.Need-same-length-18 (exec-cs t) (exec-at t) exec.Post
-exec-same-length-18 t c =
-    let after-post2 = c .before .before .before .before .before .before .before in
-    after-post2 .post2 .kept .1 .1 .1 .1 .1 .1 .1 .1 .1 .1 .1 .1 .1 .1 .1 .0
-
-pub exec-same-length-19 : (t : ℕ) → exec-lts.Need-same-length-19 (exec-cs t) (exec-at t) exec.Post
-exec-same-length-19 t c =
-    let after-post2 = c .before .before .before .before .before .before .before in
-    after-post2 .post2 .kept .1 .1 .1 .1 .1 .1 .1 .1 .1 .1 .1 .1 .1 .1 .1 .1 .0
-
-pub exec-same-length-20 : (t : ℕ) → exec-lts.Need-same-length-20 (exec-cs t) (exec-at t) exec.Post
-exec-same-length-20 t c =
-    let after-post2 = c .before .before .before .before .before .before .before in
+pub exec-same-length-5 : (t : ℕ) → exec-lts.Need-same-length-5 (exec-cs t) (exec-at t) exec.Post
+exec-same-length-5 t c =
+    let after-post2 = c .before .before in
     after-post2 .post2 .kept .1 .1 .1 .1 .1 .1 .1 .1 .1 .1 .1 .1 .1 .1 .1 .1 .1 .0
 
 pub exec-returns-6 : (t : ℕ) → exec-lts.Need-returns-6 (exec-cs t) (exec-at t) exec.Post
 exec-returns-6 t c =
-    let after-post2 = c .before .before .before .before .before .before .before in
+    let after-post2 = c .before .before in
     let after-if1 = after-post2 .before .before .before .before .before .before .before .before .before .before in
-    let start = after-if1 .before .before .before .before .before .before .before in
+    let start = after-if1 .before .before .before .before .before in
     let a = start .args in
     let lent = start .pre .1 .0 in
     let mine = start .pre .1 .1 in
@@ -303,17 +228,8 @@ exec-returns-6 t c =
     let price = cost-known _ (lent .ready) (mine .0) (node .kind) in
     enters (a .file .now) (a .ctx .now) (a .user) (a .above) (a .n) price (omega (arith, after-if1 .if1 .left)) (after-post2 .post2 .ensures)
 
-pub exec-same-length-21 : (t : ℕ) → exec-lts.Need-same-length-21 (exec-cs t) (exec-at t) exec.Post
-exec-same-length-21 t c = refl
-
-pub exec-same-length-22 : (t : ℕ) → exec-lts.Need-same-length-22 (exec-cs t) (exec-at t) exec.Post
-exec-same-length-22 t c = refl
-
-pub exec-same-length-23 : (t : ℕ) → exec-lts.Need-same-length-23 (exec-cs t) (exec-at t) exec.Post
-exec-same-length-23 t c = refl
-
-pub exec-same-length-24 : (t : ℕ) → exec-lts.Need-same-length-24 (exec-cs t) (exec-at t) exec.Post
-exec-same-length-24 t c =
+pub exec-same-length-6 : (t : ℕ) → exec-lts.Need-same-length-6 (exec-cs t) (exec-at t) exec.Post
+exec-same-length-6 t c =
     let after-act = c .before .before in
     after-act .act .kept .1 .1 .1 .1 .1 .1 .1 .1 .1 .1 .1 .1 .1 .1 .1 .0
 
@@ -321,7 +237,7 @@ pub exec-returns-7 : (t : ℕ) → exec-lts.Need-returns-7 (exec-cs t) (exec-at 
 exec-returns-7 t c =
     let after-act = c .before .before in
     let after-if1 = after-act .before .before .before .before .before .before .before .before .before .before in
-    let start = after-if1 .before .before .before .before .before .before .before in
+    let start = after-if1 .before .before .before .before .before in
     let a = start .args in
     let lent = start .pre .1 .0 in
     let mine = start .pre .1 .1 in

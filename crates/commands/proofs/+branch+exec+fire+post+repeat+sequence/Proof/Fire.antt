@@ -9,14 +9,14 @@ use Rattle.monitor.specs.Rules.{trigger-vars}
 use Rattle.machine.specs.Store.{cell}
 use Rattle.machine.specs.Writes.{key-of}
 use Rattle.commands.proofs.Firing.{found, from-found, none-left, fitting-stops, fitting-goes, fires-as, trigger-runs}
-use Rattle.commands.proofs.Lents.{lengths-after, lent-after}
+use Rattle.commands.proofs.Lents.{lent-after}
 use Rattle.commands.proofs.fire.Reads as fire
 use Rattle.commands.proofs.+branch+exec+fire+post+repeat+sequence.Lts-fire as fire-lts
 use Rattle.commands.proofs.+branch+exec+fire+post+repeat+sequence.Proof.Common.{fire-at, fire-cs}
 
 pub fire-next-fitting-requires : (t : ℕ) → fire-lts.Need-next-fitting-requires (fire-cs t) (fire-at t) fire.Post
 fire-next-fitting-requires t c κs =
-    let start = c .before .before .before .before in
+    let start = c .before .before in
     let lent = start .pre .1 .0 in
     (lent .ready .accepted, start .pre .1 .1)
 
@@ -33,7 +33,7 @@ pub fire-returns : (t : ℕ) → fire-lts.Need-returns (fire-cs t) (fire-at t) f
 fire-returns t c =
     let after-enum-told = c .before in
     let after-next-fitting = after-enum-told .before .before in
-    let start = after-next-fitting .before .before .before .before .before in
+    let start = after-next-fitting .before .before .before in
     let a = start .args in
     let lent = start .pre .1 .0 in
     none-left (a .file .now) (a .ctx .now) (a .event) (a .place) (key-of (a .owner) (a .line)) (record { val = cell (a .event) (a .amount); lab = a .label .now }) (a .t) (count (a .file .now) 5 - a .t) refl (sym (after-next-fitting .next-fitting .ensures) ∙ after-enum-told .enum-told .given .1) (c .finished .ensures) (lent .room)
@@ -45,7 +45,7 @@ pub fire-add-above : (t : ℕ) → fire-lts.Need-add-above (fire-cs t) (fire-at 
 fire-add-above t c =
     let after-next = c .before .before .before .before in
     let after-next-fitting = after-next .before .before in
-    let start = after-next-fitting .before .before .before .before .before in
+    let start = after-next-fitting .before .before .before in
     let a = start .args in
     let lent = start .pre .1 .0 in
     let first = found (a .file .now) (a .ctx .now) (a .event) (a .place) (key-of (a .owner) (a .line)) (record { val = cell (a .event) (a .amount); lab = a .label .now }) (count (a .file .now) 5 - a .t) (a .t) refl (sym (after-next-fitting .next-fitting .ensures) ∙ after-next .next .given .1) in
@@ -56,7 +56,7 @@ pub fire-exec-requires : (t : ℕ) → fire-lts.Need-exec-requires (fire-cs t) (
 fire-exec-requires t c κs =
     let after-next = c .before .before .before .before .before .before .before .before .before .before .before .before in
     let after-next-fitting = after-next .before .before in
-    let start = after-next-fitting .before .before .before .before .before in
+    let start = after-next-fitting .before .before .before in
     let a = start .args in
     let lent = start .pre .1 .0 in
     let first = found (a .file .now) (a .ctx .now) (a .event) (a .place) (key-of (a .owner) (a .line)) (record { val = cell (a .event) (a .amount); lab = a .label .now }) (count (a .file .now) 5 - a .t) (a .t) refl (sym (after-next-fitting .next-fitting .ensures) ∙ after-next .next .given .1) in
@@ -71,31 +71,16 @@ fire-enum-told-3 t c = c .match2 .keys2
 
 pub fire-same-length : (t : ℕ) → fire-lts.Need-same-length (fire-cs t) (fire-at t) fire.Post
 fire-same-length t c =
-    let after-exec = c .before .before .before .before .before .before .before .before .before in
-    after-exec .exec .kept .1 .1 .1 .1 .1 .1 .1 .1 .1 .1 .1 .1 .1 .0
-
-pub fire-same-length-2 : (t : ℕ) → fire-lts.Need-same-length-2 (fire-cs t) (fire-at t) fire.Post
-fire-same-length-2 t c =
-    let after-exec = c .before .before .before .before .before .before .before .before .before in
-    after-exec .exec .kept .1 .1 .1 .1 .1 .1 .1 .1 .1 .1 .1 .1 .1 .1 .0
-
-pub fire-same-length-3 : (t : ℕ) → fire-lts.Need-same-length-3 (fire-cs t) (fire-at t) fire.Post
-fire-same-length-3 t c =
-    let after-exec = c .before .before .before .before .before .before .before .before .before in
-    after-exec .exec .kept .1 .1 .1 .1 .1 .1 .1 .1 .1 .1 .1 .1 .1 .1 .1 .0
-
-pub fire-same-length-4 : (t : ℕ) → fire-lts.Need-same-length-4 (fire-cs t) (fire-at t) fire.Post
-fire-same-length-4 t c =
-    let after-exec = c .before .before .before .before .before .before .before .before .before in
+    let after-exec = c .before .before .before .before in
     after-exec .exec .kept .1 .1 .1 .1 .1 .1 .1 .1 .1 .1 .1 .1 .1 .1 .1 .1 .0
 
 pub fire-returns-2 : (t : ℕ) → fire-lts.Need-returns-2 (fire-cs t) (fire-at t) fire.Post
 fire-returns-2 t c =
-    let after-exec = c .before .before .before .before .before .before .before .before .before in
+    let after-exec = c .before .before .before .before in
     let after-variables = after-exec .before .before .before .before .before .before .before .before .before .before .before in
     let after-next = after-variables .before .before in
     let after-next-fitting = after-next .before .before in
-    let start = after-next-fitting .before .before .before .before .before in
+    let start = after-next-fitting .before .before .before in
     let a = start .args in
     let lent = start .pre .1 .0 in
     let first = found (a .file .now) (a .ctx .now) (a .event) (a .place) (key-of (a .owner) (a .line)) (record { val = cell (a .event) (a .amount); lab = a .label .now }) (count (a .file .now) 5 - a .t) (a .t) refl (sym (after-next-fitting .next-fitting .ensures) ∙ after-next .next .given .1) in
@@ -106,49 +91,31 @@ fire-returns-2 t c =
 
 pub fire-fire-requires : (t : ℕ) → fire-lts.Need-fire-requires (fire-cs t) (fire-at t) fire.Post
 fire-fire-requires t c κs =
-    let after-exec = c .before .before .before .before .before .before .before .before .before .before .before .before .before .before .before in
+    let after-exec = c .before .before .before .before .before .before .before .before .before .before in
     let after-next = after-exec .before .before .before .before .before .before .before .before .before .before .before .before .before in
     let after-next-fitting = after-next .before .before in
-    let start = after-next-fitting .before .before .before .before .before in
+    let start = after-next-fitting .before .before .before in
     let a = start .args in
     let lent = start .pre .1 .0 in
     let first = found (a .file .now) (a .ctx .now) (a .event) (a .place) (key-of (a .owner) (a .line)) (record { val = cell (a .event) (a .amount); lab = a .label .now }) (count (a .file .now) 5 - a .t) (a .t) refl (sym (after-next-fitting .next-fitting .ensures) ∙ after-next .next .given .1) in
     let sited = placed (a .file .now) (lent .ready .accepted) in
-    (omega (arith, start .pre .0, after-exec .exec .ensures .within, first .from, first .below, sited .few-triggers), (lent-after lent (lengths-after (lent .cells) (after-exec .exec .kept .1 .1 .1 .1 .1 .1 .1 .1 .1 .1 .1 .1 .1 .0) (after-exec .exec .kept .1 .1 .1 .1 .1 .1 .1 .1 .1 .1 .1 .1 .1 .1 .0) (after-exec .exec .kept .1 .1 .1 .1 .1 .1 .1 .1 .1 .1 .1 .1 .1 .1 .1 .0)) (after-exec .exec .kept .1 .1 .1 .1 .1 .1 .1 .1 .1 .1 .1 .1 .1 .1 .1 .1 .0) (after-exec .exec .ensures .fits), start .pre .1 .1))
+    (omega (arith, start .pre .0, after-exec .exec .ensures .within, first .from, first .below, sited .few-triggers), (lent-after lent (after-exec .exec .kept .1 .1 .1 .1 .1 .1 .1 .1 .1 .1 .1 .1 .1 .1 .1 .1 .0) (after-exec .exec .ensures .fits), start .pre .1 .1))
 
-pub fire-same-length-5 : (t : ℕ) → fire-lts.Need-same-length-5 (fire-cs t) (fire-at t) fire.Post
-fire-same-length-5 t c =
-    let after-fire = c .before .before .before .before .before .before .before in
-    let after-exec = after-fire .before .before .before .before .before .before .before .before .before .before .before .before .before .before .before .before in
-    after-fire .fire .kept .1 .1 .1 .1 .1 .1 .1 .1 .1 .1 .1 .1 .1 .1 .1 .0 ∙ after-exec .exec .kept .1 .1 .1 .1 .1 .1 .1 .1 .1 .1 .1 .1 .1 .0
-
-pub fire-same-length-6 : (t : ℕ) → fire-lts.Need-same-length-6 (fire-cs t) (fire-at t) fire.Post
-fire-same-length-6 t c =
-    let after-fire = c .before .before .before .before .before .before .before in
-    let after-exec = after-fire .before .before .before .before .before .before .before .before .before .before .before .before .before .before .before .before in
-    after-fire .fire .kept .1 .1 .1 .1 .1 .1 .1 .1 .1 .1 .1 .1 .1 .1 .1 .1 .0 ∙ after-exec .exec .kept .1 .1 .1 .1 .1 .1 .1 .1 .1 .1 .1 .1 .1 .1 .0
-
-pub fire-same-length-7 : (t : ℕ) → fire-lts.Need-same-length-7 (fire-cs t) (fire-at t) fire.Post
-fire-same-length-7 t c =
-    let after-fire = c .before .before .before .before .before .before .before in
-    let after-exec = after-fire .before .before .before .before .before .before .before .before .before .before .before .before .before .before .before .before in
-    after-fire .fire .kept .1 .1 .1 .1 .1 .1 .1 .1 .1 .1 .1 .1 .1 .1 .1 .1 .1 .0 ∙ after-exec .exec .kept .1 .1 .1 .1 .1 .1 .1 .1 .1 .1 .1 .1 .1 .1 .1 .0
-
-pub fire-same-length-8 : (t : ℕ) → fire-lts.Need-same-length-8 (fire-cs t) (fire-at t) fire.Post
-fire-same-length-8 t c =
-    let after-fire = c .before .before .before .before .before .before .before in
-    let after-exec = after-fire .before .before .before .before .before .before .before .before .before .before .before .before .before .before .before .before in
+pub fire-same-length-2 : (t : ℕ) → fire-lts.Need-same-length-2 (fire-cs t) (fire-at t) fire.Post
+fire-same-length-2 t c =
+    let after-fire = c .before .before in
+    let after-exec = after-fire .before .before .before .before .before .before .before .before .before .before .before in
     after-fire .fire .kept .1 .1 .1 .1 .1 .1 .1 .1 .1 .1 .1 .1 .1 .1 .1 .1 .1 .1 .0 ∙ after-exec .exec .kept .1 .1 .1 .1 .1 .1 .1 .1 .1 .1 .1 .1 .1 .1 .1 .1 .0
 
 pub fire-returns-3 : (t : ℕ) → fire-lts.Need-returns-3 (fire-cs t) (fire-at t) fire.Post
 fire-returns-3 t c =
-    let after-fire = c .before .before .before .before .before .before .before in
+    let after-fire = c .before .before in
     let after-enum-told2 = after-fire .before .before .before .before .before .before .before in
-    let after-exec = after-enum-told2 .before .before .before .before .before .before .before .before .before in
+    let after-exec = after-enum-told2 .before .before .before .before in
     let after-variables = after-exec .before .before .before .before .before .before .before .before .before .before .before in
     let after-next = after-variables .before .before in
     let after-next-fitting = after-next .before .before in
-    let start = after-next-fitting .before .before .before .before .before in
+    let start = after-next-fitting .before .before .before in
     let a = start .args in
     let lent = start .pre .1 .0 in
     let first = found (a .file .now) (a .ctx .now) (a .event) (a .place) (key-of (a .owner) (a .line)) (record { val = cell (a .event) (a .amount); lab = a .label .now }) (count (a .file .now) 5 - a .t) (a .t) refl (sym (after-next-fitting .next-fitting .ensures) ∙ after-next .next .given .1) in

@@ -26,10 +26,10 @@ module _ (t : ℕ) where
   Start = part-lts.Start (part-cs t) (part-at t) part.Post
 
   ready : (o : Start) → Ready (o .args .file .now) (o .args .nodes) (o .args .costs .now)
-  ready o = o .pre .1 .0 .0
+  ready o = o .pre .1 .0
 
   node : (o : Start) → Node expression (o .args .file .now) (o .args .n)
-  node o = o .pre .1 .0 .1
+  node o = o .pre .1 .1
 
   record-of : (o : Start) → Read (o .args .file .now) (o .args .nodes + 16 * o .args .n) (node-at (decode (o .args .file .now)) (o .args .n))
   record-of o = read (ready o) (node o)
@@ -41,30 +41,30 @@ module _ (t : ℕ) where
 
   pub mul-if1 : part-lts.Need-mul-if1 (part-cs t) (part-at t) part.Post
   mul-if1 c =
-      let r = record-of (c .before .before .before) in
+      let r = record-of (c .before) in
       record { fits = omega (arith, r .end, r .short) }
 
   pub add-if1 : part-lts.Need-add-if1 (part-cs t) (part-at t) part.Post
   add-if1 c =
-      let r = record-of (c .before .before .before) in
+      let r = record-of (c .before) in
       record { fits = omega (arith, r .end, r .short) }
 
   pub shared-slice-read-if1 : part-lts.Need-shared-slice-read-if1 (part-cs t) (part-at t) part.Post
   shared-slice-read-if1 c =
-      let r = record-of (c .before .before .before .before) in
+      let r = record-of (c .before .before) in
       omega (arith, r .end)
 
   pub leaf-requires : part-lts.Need-leaf-requires (part-cs t) (part-at t) part.Post
   leaf-requires c κs =
-      let o = c .before .before .before .before .before .before in
+      let o = c .before .before .before .before in
       (ready o, node o, omega (arith, c .before .if1 .taken, record-of o .kind))
 
   pub returns : part-lts.Need-returns (part-cs t) (part-at t) part.Post
-  returns c = c .leaf .ensures (cells (c .before .before .before .before .before .before .before))
+  returns c = c .leaf .ensures (cells (c .before .before .before .before .before))
 
   pub join-requires : part-lts.Need-join-requires (part-cs t) (part-at t) part.Post
   join-requires c κs =
-      let o = c .before .before .before .before .before .before in
+      let o = c .before .before .before .before in
       (omega (arith, o .pre .0), o .pre .1)
 
   pub returns-2 : part-lts.Need-returns-2 (part-cs t) (part-at t) part.Post

@@ -40,13 +40,13 @@ module _ (t : ℕ) where
   Start = query-lts.Start (query-cs t) (query-at t) query.Post
 
   ready : (o : Start) → Ready (o .args .file .now) (o .args .nodes) (o .args .costs .now)
-  ready o = o .pre .1 .0 .0
+  ready o = o .pre .1 .0
 
   node : (o : Start) → Node expression (o .args .file .now) (o .args .n)
-  node o = o .pre .1 .0 .1
+  node o = o .pre .1 .1
 
   kind-is : (o : Start) → between 8 11 (node-at (decode (o .args .file .now)) (o .args .n) .kind) ≡ true
-  kind-is o = o .pre .1 .0 .2
+  kind-is o = o .pre .1 .2
 
   record-of : (o : Start) → Read (o .args .file .now) (o .args .nodes + 16 * o .args .n) (node-at (decode (o .args .file .now)) (o .args .n))
   record-of o = read (ready o) (node o)
@@ -61,29 +61,29 @@ module _ (t : ℕ) where
 
   pub mul-at : query-lts.Need-mul-at (query-cs t) (query-at t) query.Post
   mul-at c =
-      let r = record-of (c .before .before .before) in
+      let r = record-of (c .before) in
       record { fits = omega (arith, r .end, r .short) }
 
   pub add-at : query-lts.Need-add-at (query-cs t) (query-at t) query.Post
   add-at c =
-      let r = record-of (c .before .before .before) in
+      let r = record-of (c .before) in
       record { fits = omega (arith, r .end, r .short) }
 
   pub add-u16-at : query-lts.Need-add-u16-at (query-cs t) (query-at t) query.Post
   add-u16-at c =
-      let r = record-of (c .before .before .before) in
+      let r = record-of (c .before) in
       record { fits = omega (arith, r .end, r .short) }
 
   pub u16-at-requires : query-lts.Need-u16-at-requires (query-cs t) (query-at t) query.Post
   u16-at-requires c κs =
-      let r = record-of (c .before .before .before) in
+      let r = record-of (c .before) in
       omega (arith, r .end)
 
   pub join-requires : query-lts.Need-join-requires (query-cs t) (query-at t) query.Post
   join-requires c κs =
-      let o = c .before .before .before .before .before in
+      let o = c .before .before .before in
       let child = query-first (ready o) (node o) (kind-is o) (c .before .u16-at .ensures .0) in
-      (omega (arith, o .pre .0, child .lower), ((ready o, child .node), o .pre .1 .1))
+      (omega (arith, o .pre .0, child .lower), (ready o, child .node))
 
   pub enum-known-first : query-lts.Need-enum-known-first (query-cs t) (query-at t) query.Post
   enum-known-first c = search needs
@@ -94,26 +94,26 @@ module _ (t : ℕ) where
   pub returns : query-lts.Need-returns (query-cs t) (query-at t) query.Post
   returns c =
       let w = c .before .before in
-      let o = w .before .before .before .before .before .before in
+      let o = w .before .before .before .before in
       let r = record-of o in
       query-first-stops (o .args .file .now) (o .args .n) (cells o) (vars o) (o .args .left) (kind-is o)
       (w .before .before .u16-at .ensures .0 ∙ r .a) (w .join .ensures) (c .enum-told .given .1)
 
   pub add-u16-at-2 : query-lts.Need-add-u16-at-2 (query-cs t) (query-at t) query.Post
   add-u16-at-2 c =
-      let r = record-of (c .before .before .before .before .before .before .before .before .before) in
+      let r = record-of (c .before .before .before .before .before .before .before) in
       record { fits = omega (arith, r .end, r .short) }
 
   pub u16-at-requires-2 : query-lts.Need-u16-at-requires-2 (query-cs t) (query-at t) query.Post
   u16-at-requires-2 c κs =
-      let r = record-of (c .before .before .before .before .before .before .before .before .before) in
+      let r = record-of (c .before .before .before .before .before .before .before) in
       omega (arith, r .end)
 
   pub join-requires-2 : query-lts.Need-join-requires-2 (query-cs t) (query-at t) query.Post
   join-requires-2 c κs =
-      let o = c .before .before .before .before .before .before .before .before .before .before .before in
+      let o = c .before .before .before .before .before .before .before .before .before in
       let child = query-second (ready o) (node o) (kind-is o) (c .before .u16-at2 .ensures .0) in
-      (omega (arith, o .pre .0, child .lower), ((ready o, child .node), o .pre .1 .1))
+      (omega (arith, o .pre .0, child .lower), (ready o, child .node))
 
   pub enum-known-second : query-lts.Need-enum-known-second (query-cs t) (query-at t) query.Post
   enum-known-second c = search needs
@@ -126,7 +126,7 @@ module _ (t : ℕ) where
       let x = c .before .before in
       let first-known = x .before .before .before .before in
       let w = first-known .before .before in
-      let o = w .before .before .before .before .before .before in
+      let o = w .before .before .before .before in
       let r = record-of o in
       query-second-stops (o .args .file .now) (o .args .n) (cells o) (vars o) (o .args .left) (kind-is o)
       (w .before .before .u16-at .ensures .0 ∙ r .a) (w .join .ensures) (first-known .first .given .1)
@@ -134,19 +134,19 @@ module _ (t : ℕ) where
 
   pub add-u16-at-3 : query-lts.Need-add-u16-at-3 (query-cs t) (query-at t) query.Post
   add-u16-at-3 c =
-      let r = record-of (c .before .before .before .before .before .before .before .before .before .before .before .before .before .before .before) in
+      let r = record-of (c .before .before .before .before .before .before .before .before .before .before .before .before .before) in
       record { fits = omega (arith, r .end, r .short) }
 
   pub u16-at-requires-3 : query-lts.Need-u16-at-requires-3 (query-cs t) (query-at t) query.Post
   u16-at-requires-3 c κs =
-      let r = record-of (c .before .before .before .before .before .before .before .before .before .before .before .before .before .before .before) in
+      let r = record-of (c .before .before .before .before .before .before .before .before .before .before .before .before .before) in
       omega (arith, r .end)
 
   pub join-requires-3 : query-lts.Need-join-requires-3 (query-cs t) (query-at t) query.Post
   join-requires-3 c κs =
-      let o = c .before .before .before .before .before .before .before .before .before .before .before .before .before .before .before .before .before in
+      let o = c .before .before .before .before .before .before .before .before .before .before .before .before .before .before .before in
       let child = query-third (ready o) (node o) (kind-is o) (c .before .u16-at3 .ensures .0) in
-      (omega (arith, o .pre .0, child .lower), ((ready o, child .node), o .pre .1 .1))
+      (omega (arith, o .pre .0, child .lower), (ready o, child .node))
 
   pub enum-known-third : query-lts.Need-enum-known-third (query-cs t) (query-at t) query.Post
   enum-known-third c = search needs
@@ -161,7 +161,7 @@ module _ (t : ℕ) where
       let x = second-known .before .before in
       let first-known = x .before .before .before .before in
       let w = first-known .before .before in
-      let o = w .before .before .before .before .before .before in
+      let o = w .before .before .before .before in
       let r = record-of o in
       query-third-stops (o .args .file .now) (o .args .n) (cells o) (vars o) (o .args .left) (kind-is o)
       (w .before .before .u16-at .ensures .0 ∙ r .a) (w .join .ensures) (first-known .first .given .1)
@@ -170,19 +170,19 @@ module _ (t : ℕ) where
 
   pub add-u16-at-4 : query-lts.Need-add-u16-at-4 (query-cs t) (query-at t) query.Post
   add-u16-at-4 c =
-      let r = record-of (c .before .before .before .before .before .before .before .before .before .before .before .before .before .before .before .before .before .before .before .before .before) in
+      let r = record-of (c .before .before .before .before .before .before .before .before .before .before .before .before .before .before .before .before .before .before .before) in
       record { fits = omega (arith, r .end, r .short) }
 
   pub u16-at-requires-4 : query-lts.Need-u16-at-requires-4 (query-cs t) (query-at t) query.Post
   u16-at-requires-4 c κs =
-      let r = record-of (c .before .before .before .before .before .before .before .before .before .before .before .before .before .before .before .before .before .before .before .before .before) in
+      let r = record-of (c .before .before .before .before .before .before .before .before .before .before .before .before .before .before .before .before .before .before .before) in
       omega (arith, r .end)
 
   pub join-requires-4 : query-lts.Need-join-requires-4 (query-cs t) (query-at t) query.Post
   join-requires-4 c κs =
-      let o = c .before .before .before .before .before .before .before .before .before .before .before .before .before .before .before .before .before .before .before .before .before .before .before in
+      let o = c .before .before .before .before .before .before .before .before .before .before .before .before .before .before .before .before .before .before .before .before .before in
       let child = query-fourth (ready o) (node o) (kind-is o) (c .before .u16-at4 .ensures .0) in
-      (omega (arith, o .pre .0, child .lower), ((ready o, child .node), o .pre .1 .1))
+      (omega (arith, o .pre .0, child .lower), (ready o, child .node))
 
   pub enum-known-fourth : query-lts.Need-enum-known-fourth (query-cs t) (query-at t) query.Post
   enum-known-fourth c = search needs
@@ -199,7 +199,7 @@ module _ (t : ℕ) where
       let x = second-known .before .before in
       let first-known = x .before .before .before .before in
       let w = first-known .before .before in
-      let o = w .before .before .before .before .before .before in
+      let o = w .before .before .before .before in
       let r = record-of o in
       query-fourth-stops (o .args .file .now) (o .args .n) (cells o) (vars o) (o .args .left) (kind-is o)
       (w .before .before .u16-at .ensures .0 ∙ r .a) (w .join .ensures) (first-known .first .given .1)
@@ -212,23 +212,23 @@ module _ (t : ℕ) where
 
   pub shared-slice-read-query : query-lts.Need-shared-slice-read-query (query-cs t) (query-at t) query.Post
   shared-slice-read-query c =
-      let r = record-of (c .before .before .before .before .before .before .before .before .before .before .before .before .before .before .before .before .before .before .before .before .before .before .before .before .before .before .before .before) in
+      let r = record-of (c .before .before .before .before .before .before .before .before .before .before .before .before .before .before .before .before .before .before .before .before .before .before .before .before .before .before) in
       omega (arith, r .end)
 
   pub add-byte-at : query-lts.Need-add-byte-at (query-cs t) (query-at t) query.Post
   add-byte-at c =
-      let r = record-of (c .before .before .before .before .before .before .before .before .before .before .before .before .before .before .before .before .before .before .before .before .before .before .before .before .before .before .before .before) in
+      let r = record-of (c .before .before .before .before .before .before .before .before .before .before .before .before .before .before .before .before .before .before .before .before .before .before .before .before .before .before) in
       record { fits = omega (arith, r .end, r .short) }
 
   pub byte-at-requires : query-lts.Need-byte-at-requires (query-cs t) (query-at t) query.Post
   byte-at-requires c κs =
-      let r = record-of (c .before .before .before .before .before .before .before .before .before .before .before .before .before .before .before .before .before .before .before .before .before .before .before .before .before .before .before .before) in
+      let r = record-of (c .before .before .before .before .before .before .before .before .before .before .before .before .before .before .before .before .before .before .before .before .before .before .before .before .before .before) in
       omega (arith, r .end)
 
   pub query-requires : query-lts.Need-query-requires (query-cs t) (query-at t) query.Post
   query-requires c κs =
-      let o = c .before .before .before .before .before .before .before .before .before .before .before .before .before .before .before .before .before .before .before .before .before .before .before .before .before .before .before .before .before in
-      (query-table (ready o) (node o) (kind-is o) (c .byte-at .ensures .0), o .pre .1 .1)
+      let o = c .before .before .before .before .before .before .before .before .before .before .before .before .before .before .before .before .before .before .before .before .before .before .before .before .before .before .before in
+      query-table (ready o) (node o) (kind-is o) (c .byte-at .ensures .0)
 
   pub ranged-requires : query-lts.Need-ranged-requires (query-cs t) (query-at t) query.Post
   ranged-requires c κs = search needs
@@ -245,7 +245,7 @@ module _ (t : ℕ) where
       let x = second-known .before .before in
       let first-known = x .before .before .before .before in
       let w = first-known .before .before in
-      let o = w .before .before .before .before .before .before in
+      let o = w .before .before .before .before in
       let r = record-of o in
       let found = found-at .query in
       let found-is = rw (
