@@ -23,7 +23,7 @@ use Rattle.machine.specs.declared.Outcome.the-variants.{Done, Stopped}
 use Rattle.machine.specs.declared.Ran.{Ran}
 use Rattle.programs.specs.Programs.{Programs}
 use Rattle.entry.specs.Entry.{lent, result, ended-as, answer-of}
-use Rattle.runner.specs.Start.{Loaded}
+use Rattle.runner.specs.Start.{Loaded, Ended}
 
 -- the end of a run as the result
 ended-result : (budget : ℕ) (m : Memory) (o : Outcome) (obstacle : Label) (records : List Rec) (s : State)
@@ -32,40 +32,64 @@ unfolding result-of ended ended-as
 ended-result budget m Done obstacle records s = refl
 ended-result budget m (Stopped number node) obstacle records s = refl
 
-module _ (file : List ℕ) (budget : ℕ) (m : Memory) (l : Loaded file m) (read write : List (List ℕ))
-    (read-is : read ≡ read-sets (decode file)) (write-is : write ≡ write-sets (decode file))
-    {amounts : List ℤ} {presence labels : List ℕ} (amounts-are : amounts ≡ m .amounts) (presence-is : presence ≡ m .presence) (labels-are : labels ≡ m .labels) where
-  -- what the programs are lent: copies of the loaded cells, the rights and the trace
-  abbrev start : Store
-  start = store amounts presence labels read write (m .trace)
+-- the programs ran from the book's rights
+pub ran-to : {file : List ℕ} {budget : ℕ} {amounts amounts' : List ℤ} {presence presence' labels labels' trace trace' : List ℕ} {read write read' write' : List (List ℕ)} {r : Ran}
+    → read ≡ read-sets (decode file) → write ≡ write-sets (decode file)
+    → DoesAside (Programs file 0) (store amounts presence labels read write trace) budget 0 r (store amounts' presence' labels' read' write' trace')
+    → Ended file budget (lent amounts presence labels trace) r (lent amounts' presence' labels' trace')
+ran-to {read' = read'} {write' = write'} read-is write-is d = record { read = read'; write = write'; does = rw (read-is, write-is) at d }
 
-  -- it is the start of the rules' run
+-- copies of loaded cells are a start, too
+pub copied-start : {file : List ℕ} {m : Memory} {amounts : List ℤ} {presence labels : List ℕ} → Loaded file m
+    → amounts ≡ m .amounts → presence ≡ m .presence → labels ≡ m .labels → Loaded file (lent amounts presence labels (m .trace))
+copied-start l a p t = record {
+  accepted = l .accepted;
+  amounts-are = a ∙ l .amounts-are;
+  presence-is = p ∙ l .presence-is;
+  labels-are = t ∙ l .labels-are;
+  short = l .short;
+}
+
+module _ {file : List ℕ} {budget : ℕ} {m m' : Memory} {r : Ran} (l : Loaded file m) (e : Ended file budget m r m') where
+  abbrev start : Store
+  start = store (m .amounts) (m .presence) (m .labels) (read-sets (decode file)) (write-sets (decode file)) (m .trace)
+
+  abbrev end : Store
+  end = store (m' .amounts) (m' .presence) (m' .labels) (e .read) (e .write) (m' .trace)
+
+  -- the cells and rights are the start of the rules' run
   starts : state (sixteen (lit (pos 0))) start budget 0 ≡ start-state (decode file) budget (length (m .trace) / 8)
   unfolding start-state start-cells start-rights
-  starts = rw (amounts-are, presence-is, labels-are, l .amounts-are, l .presence-is, l .labels-are, read-is, write-is, sub-zero (length (m .trace)))
+  starts = rw (l .amounts-are, l .presence-is, l .labels-are, sub-zero (length (m .trace)))
 
   -- the book's run, with the budget for fuel, is that of its programs
   runs : Programs file 0 budget (state (sixteen (lit (pos 0))) start budget 0) ≡ run-book true (decode file) budget (length (m .trace) / 8)
   unfolding run-book run
   runs = ap (Programs file 0 budget) starts
 
-  -- and what they leave, copied back, is what the call leaves
-  module _ {r : Ran} {x : Store} (d : DoesAside (Programs file 0) start budget 0 r x) {amounts' : List ℤ} {presence' labels' : List ℕ}
-      (same-amounts : amounts' ≡ x .amounts) (same-presence : presence' ≡ x .presence) (same-labels : labels' ≡ x .labels)
-      (h : Sizes amounts' presence' labels') where
-    pub run-gives : result (answer-of r budget) (lent amounts' presence' labels' (x .trace)) ≡ answered true file budget m Accepted
-    unfolding answered memory-after with-records
-    run-gives =
-        let does = d .does (sixteen (lit (pos 0))) in
-        let end = sym runs ∙ does .is budget (le-refl budget) in
-        let is = ap (result-of budget m) end ∙ ended-result budget m (r .outcome) (does .obstacle) (does .records) (state (sixteen (lit (pos 0))) x (r .left) (r .used)) in
-        let used : r .used ≡ 8 * length (does .records) = does .used-is ∙ zero-add (8 * length (does .records)) in
-        let trace = does .trace-is ∙ ap (λ (k : ℕ). trace-bytes (does .records) ++ drop k (m .trace)) (zero-add (8 * length (does .records))) in
-        let sizes : Sizes (x .amounts) (x .presence) (x .labels) = rw (sym same-amounts, sym same-presence, sym same-labels) h in
-        let amounts-kept = same-amounts ∙ sym (amounts-kept (x .amounts) (x .presence) (x .labels) sizes) in
-        let presence-kept = same-presence ∙ sym (presence-kept (x .amounts) (x .presence) (x .labels) sizes) in
-        let labels-kept = same-labels ∙ sym (labels-kept (x .amounts) (x .presence) (x .labels) sizes) in
-        (λ i. result (ended-as (r .outcome) (budget - r .left) (used i)) (lent (amounts-kept i) (presence-kept i) (labels-kept i) (trace i))) ∙ sym is
+  -- and what they leave is what the call leaves
+  pub run-gives : Sizes (m' .amounts) (m' .presence) (m' .labels) → result (answer-of r budget) m' ≡ answered true file budget m Accepted
+  unfolding answered memory-after with-records
+  run-gives h =
+      let does = e .does .does (sixteen (lit (pos 0))) in
+      let is = ap (result-of budget m) (sym runs ∙ does .is budget (le-refl budget))
+      ∙ ended-result budget m (r .outcome) (does .obstacle) (does .records) (state (sixteen (lit (pos 0))) end (r .left) (r .used)) in
+      let used : r .used ≡ 8 * length (does .records) = does .used-is ∙ zero-add (8 * length (does .records)) in
+      let trace = does .trace-is ∙ ap (λ (k : ℕ). trace-bytes (does .records) ++ drop k (m .trace)) (zero-add (8 * length (does .records))) in
+      let amounts = sym (amounts-kept (m' .amounts) (m' .presence) (m' .labels) h) in
+      let presence = sym (presence-kept (m' .amounts) (m' .presence) (m' .labels) h) in
+      let labels = sym (labels-kept (m' .amounts) (m' .presence) (m' .labels) h) in
+      (λ i. result (ended-as (r .outcome) (budget - r .left) (used i)) (lent (amounts i) (presence i) (labels i) (trace i))) ∙ sym is
+
+-- the same, where the programs ran on copies of the cells, which were then stored
+pub copy-gives : {file : List ℕ} {budget : ℕ} {m m' : Memory} {r : Ran} {amounts amounts' : List ℤ} {presence labels presence' labels' : List ℕ} → Loaded file m
+    → amounts ≡ m .amounts → presence ≡ m .presence → labels ≡ m .labels → Ended file budget (lent amounts presence labels (m .trace)) r m'
+    → amounts' ≡ m' .amounts → presence' ≡ m' .presence → labels' ≡ m' .labels → Sizes amounts' presence' labels'
+    → result (answer-of r budget) (lent amounts' presence' labels' (m' .trace)) ≡ answered true file budget m Accepted
+copy-gives {file} {budget} {m} {m'} {r} l a p t e a' p' t' h =
+    (λ i. result (answer-of r budget) (lent (a' i) (p' i) (t' i) (m' .trace)))
+    ∙ run-gives (copied-start l a p t) e (rw (sym a', sym p', sym t') h)
+    ∙ λ i. answered true file budget (lent (a i) (p i) (t i) (m .trace)) Accepted
 
 -- loading leaves memory of the paper's lengths
 pub start-lengths : {file : List ℕ} {m : Memory} → Loaded file m → Lengths (m .amounts) (m .presence) (m .labels)

@@ -1,4 +1,5 @@
 // The runner: the entry that takes a file, a budget and lent memory.
+use machine::Ran;
 use monitor::Answer;
 ghost use mathlib.Core.Path.{_≡_};
 ghost use mathlib.Core.Bool.{true};
@@ -6,7 +7,7 @@ ghost use Rattle.book.specs.Start.{Lengths};
 ghost use Rattle.book.specs.declared.Verdict.the-variants.{Accepted};
 ghost use Rattle.monitor.specs.Call.{answered};
 ghost use Rattle.entry.specs.Entry.{lent, result, Runs};
-ghost use Rattle.runner.specs.Start.{Loaded};
+ghost use Rattle.runner.specs.Start.{Loaded, Ended};
 
 // Stores the cells that a run leaves in lent memory.
 fn store_cells(
@@ -25,8 +26,43 @@ fn store_cells(
     memory::copy_words(tags, labels);
 }
 
+// Runs the programs of a book whose start state is in the arrays.
+fn run_programs(
+    file: &[u8],
+    budget: u32,
+    amounts: &mut [i32; 512],
+    presence: &mut [u64; 8],
+    labels: &mut [u64; 4096],
+    trace: &mut [u8],
+) -> Ran
+    requires { ⌜ Loaded (now file) (lent (now amounts) (now presence) (now labels) (now trace)) ⌝ }
+    ensures { λ r. ⌜ Ended (now (file .entry)) budget (lent (now (amounts .entry)) (now (presence .entry)) (now (labels .entry)) (now (trace .entry)))
+        r (lent (now (amounts .exit)) (now (presence .exit)) (now (labels .exit)) (now (trace .exit))) ⌝ }
+{
+    let nodes = book::section_at(file, 3).start;
+    let costs = kinds::costs();
+    let public = rights::public_set(file);
+    let mut read = rights::right_sets(file, 1);
+    let mut write = rights::right_sets(file, 2);
+    programs::programs(
+        file,
+        nodes,
+        &costs,
+        &public,
+        0,
+        budget,
+        &mut read,
+        &mut write,
+        amounts,
+        presence,
+        labels,
+        trace,
+        0,
+    )
+}
+
 // Runs an accepted book whose start state is in lent memory. The run works on arrays, so that no function below asks for their lengths;
-// lent memory gets them back at the end.
+// at the end lent memory gets what they hold.
 fn started(
     file: &[u8],
     budget: u32,
@@ -39,32 +75,13 @@ fn started(
     ensures { λ r. ⌜ result r (lent (now (amounts .exit)) (now (presence .exit)) (now (labels .exit)) (now (trace .exit)))
         ≡ answered true (now (file .entry)) budget (lent (now (amounts .entry)) (now (presence .entry)) (now (labels .entry)) (now (trace .entry))) Accepted ⌝ }
 {
-    let nodes = book::section_at(file, 3).start;
-    let costs = kinds::costs();
-    let public = rights::public_set(file);
-    let mut read = rights::right_sets(file, 1);
-    let mut write = rights::right_sets(file, 2);
     let mut values = [0i32; 512];
     let mut present = [0u64; 8];
     let mut tags = [0u64; 4096];
     memory::copy_amounts(amounts, &mut values);
     memory::copy_words(presence, &mut present);
     memory::copy_words(labels, &mut tags);
-    let ran = programs::programs(
-        file,
-        nodes,
-        &costs,
-        &public,
-        0,
-        budget,
-        &mut read,
-        &mut write,
-        &mut values,
-        &mut present,
-        &mut tags,
-        trace,
-        0,
-    );
+    let ran = run_programs(file, budget, &mut values, &mut present, &mut tags, trace);
     store_cells(&values, &present, &tags, amounts, presence, labels);
     entry::answer_of(ran, budget)
 }
