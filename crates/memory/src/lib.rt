@@ -6,10 +6,10 @@ pub fn copy_amounts(from: &[i32], to: &mut [i32])
     requires { ⌜ length (now to) ≡ length (now from) ⌝ }
     ensures { λ _. ⌜ now (to .exit) ≡ now (from .entry) ⌝ }
 {
-    let mut copied: usize = 0;
-    while copied < from.len() {
-        to[copied] = from[copied];
-        copied += 1;
+    let mut place: usize = 0;
+    while place < from.len() {
+        to[place] = from[place];
+        place += 1;
     }
 }
 
@@ -17,9 +17,9 @@ pub fn copy_words(from: &[u64], to: &mut [u64])
     requires { ⌜ length (now to) ≡ length (now from) ⌝ }
     ensures { λ _. ⌜ now (to .exit) ≡ now (from .entry) ⌝ }
 {
-    let mut copied: usize = 0;
-    while copied < from.len() {
-        to[copied] = from[copied];
-        copied += 1;
+    let mut word: usize = 0;
+    while word < from.len() {
+        to[word] = from[word];
+        word += 1;
     }
 }

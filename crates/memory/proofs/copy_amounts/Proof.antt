@@ -1,4 +1,4 @@
--- `memory::copy_amounts` meets its contract: the elements before `copied` are those of `from`.
+-- `memory::copy_amounts` meets its contract: the elements before `place` are those of `from`.
 use mathlib.Core.Path.{refl}
 use Prim.Native.Nat.{_-_}
 use mir.Facts.{toZ-ofZ}
@@ -11,10 +11,10 @@ use Rattle.memory.proofs.copy_amounts.Statement.{statement}
 use Rattle.memory.proofs.copy_amounts.Tie as tie
 
 abbrev Inv-loop : tie.InvT-loop
-Inv-loop from to₀ copied₀ to copied = Copied from to₀ to copied
+Inv-loop from to₀ place₀ to place = Copied from to₀ to place
 
 abbrev μ-loop : tie.MeasureT-loop
-μ-loop from to₀ copied₀ to copied = length from - copied
+μ-loop from to₀ place₀ to place = length from - place
 
 loop-holds : tie.Need-loop-holds Inv-loop μ-loop
 loop-holds c = record { at = search needs; elements = refl; sized = c .pre }
@@ -31,8 +31,8 @@ mul-t8 c = search needs
 slice-set-from-to : tie.Need-slice-set-from-to Inv-loop μ-loop
 slice-set-from-to c = search needs
 
-add-copied : tie.Need-add-copied Inv-loop μ-loop
-add-copied c = search needs
+add-place : tie.Need-add-place Inv-loop μ-loop
+add-place c = search needs
 
 loop-less : tie.Need-loop-less Inv-loop μ-loop
 loop-less c = search needs
@@ -41,7 +41,7 @@ loop-again : tie.Need-loop-again Inv-loop μ-loop
 loop-again c =
     let s = c .before .before .before in
     let l = c .before .before .loop in
-    copied-turn (s .args .from .now) (s .args .to .now) (l .to) (l .copied) (s .pre) (l .inv) _ (pos 0) (omega arith) (toZ-ofZ (record { sfits = c .to .given }))
+    copied-turn (s .args .from .now) (s .args .to .now) (l .to) (l .place) (s .pre) (l .inv) _ (pos 0) (omega arith) (toZ-ofZ (record { sfits = c .to .given }))
 
 same-length : tie.Need-same-length Inv-loop μ-loop
 same-length c = omega arith
@@ -50,7 +50,7 @@ returns : tie.Need-returns Inv-loop μ-loop
 returns c =
     let s = c .before .before in
     let l = c .before .loop in
-    copied-end (s .args .from .now) (s .args .to .now) (l .to) (l .copied) (s .pre) (l .inv) (omega arith)
+    copied-end (s .args .from .now) (s .args .to .now) (l .to) (l .place) (s .pre) (l .inv) (omega arith)
 
 pub copy-amounts-spec : {M : Type 1} → statement M
 copy-amounts-spec =
@@ -63,7 +63,7 @@ copy-amounts-spec =
     shared-slice-copy-out-to
     mul-t8
     slice-set-from-to
-    add-copied
+    add-place
     loop-less
     loop-again
     same-length
