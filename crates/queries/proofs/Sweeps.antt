@@ -1,7 +1,7 @@
 -- A query's way through a table: it passes over the places outside its box, and meets the cells in it.
 use mathlib.Core.Path.{_≡_, ap, ap₂, _∙_}
 use mathlib.Core.Bool.{true, false}
-use mathlib.Core.List.{List, []}
+use mathlib.Core.List.{List}
 use Prim.Native.Nat.{ℕ, _+_, _*_, _/_, _%_, _^_, _≤_, _<_}
 use native.Mathlib.Nat.{add-assoc}
 use native.Mathlib.Omega.{arith}
@@ -16,49 +16,48 @@ use Rattle.monitor.specs.Labelled.{Label, bottom, Lab}
 use Rattle.monitor.specs.Run.{Cell}
 use Rattle.monitor.specs.Rules.{in-box}
 use Rattle.monitor.specs.Call.{cells-of}
-use Rattle.queries.specs.declared.Tally.{Tally}
 use Rattle.queries.specs.declared.Found.{Found}
 use Rattle.queries.specs.Found.{box, found-in}
-use Rattle.queries.specs.Tallies.{tally-of, with-amount, value-of, first-from, first-above}
+use Rattle.queries.specs.Tallies.{start-of, with-amount, value-of, first-from, first-above}
 use Rattle.queries.proofs.Boxes.{from-le, above-le, in-yes, owner-below, owner-above, line-below, line-above}
 use Rattle.queries.proofs.Tallies.{value-is}
 use Rattle.queries.proofs.Passed.{Passed, passed-none, pass-over, pass-absent, pass-present}
 
-module _ (cells : ℕ → Lab Cell) (first last low high : ℤ) (table : ℕ) where
+module _ (kind : ℕ) (cells : ℕ → Lab Cell) (first last low high : ℤ) (table : ℕ) where
   -- a query over the box has passed the first n places of the table
-  abbrev pub Swept : ℕ → Tally → Label → Type 0
-  Swept n t l = Passed cells (in-box (box first last low high)) (64 * table) n t l
+  abbrev pub Swept : ℕ → ℤ → Label → Type 0
+  Swept n t l = Passed kind cells (in-box (box first last low high)) (64 * table) n t l
 
   -- all places before owner o are passed
-  pub record AtOwner (o : ℕ) (t : Tally) (l : Label) : Type 0 where
+  pub record AtOwner (o : ℕ) (t : ℤ) (l : Label) : Type 0 where
     pub owner-le : o ≤ 8
     pub owner-from : first-from first ≤ o
     pub swept : Swept (8 * o) t l
 
   -- owner o is in the box, and all places before its line n are passed
-  pub record AtLine (o n : ℕ) (t : Tally) (l : Label) : Type 0 where
+  pub record AtLine (o n : ℕ) (t : ℤ) (l : Label) : Type 0 where
     pub owner-from : first-from first ≤ o
     pub owner-to : o < first-above last
     pub line-le : n ≤ 8
     pub line-from : first-from low ≤ n
     pub swept : Swept (8 * o + n) t l
 
-  over : (n m : ℕ) {t : Tally} {l : Label} → n ≤ m
+  over : (n m : ℕ) {t : ℤ} {l : Label} → n ≤ m
       → ((i : ℕ) → n ≤ i → i < m → in-box (box first last low high) (64 * table + i) ≡ false) → Swept n t l → Swept m t l
-  over n m h none p = pass-over cells (in-box (box first last low high)) (64 * table) n m h none p
+  over n m h none p = pass-over kind cells (in-box (box first last low high)) (64 * table) n m h none p
 
   -- to the first owner of the box
-  pub to-first-owner : {o : ℕ} → o ≡ first-from first → AtOwner o (tally-of []) bottom
+  pub to-first-owner : {o : ℕ} → o ≡ first-from first → AtOwner o (start-of kind) bottom
   to-first-owner {o} e =
       let le : o ≤ 8 = omega (arith, from-le first) in
       record {
         owner-le = le;
         owner-from = omega arith;
-        swept = over 0 (8 * o) (omega arith) (λ i a b. owner-below first last low high table i (omega arith) (omega arith)) (passed-none cells (in-box (box first last low high)) (64 * table));
+        swept = over 0 (8 * o) (omega arith) (λ i a b. owner-below first last low high table i (omega arith) (omega arith)) (passed-none kind cells (in-box (box first last low high)) (64 * table));
       }
 
   -- to the first line of an owner
-  pub to-first-line : {o n : ℕ} {t : Tally} {l : Label} → o < first-above last → n ≡ first-from low → AtOwner o t l → AtLine o n t l
+  pub to-first-line : {o n : ℕ} {t : ℤ} {l : Label} → o < first-above last → n ≡ first-from low → AtOwner o t l → AtLine o n t l
   to-first-line {o} {n} h e at =
       let le : n ≤ 8 = omega (arith, from-le low) in
       let lt : o < 8 = omega (arith, above-le last) in
@@ -71,7 +70,7 @@ module _ (cells : ℕ → Lab Cell) (first last low high : ℤ) (table : ℕ) wh
       }
 
   -- past the last line of an owner
-  pub to-next-owner : {o n : ℕ} {t : Tally} {l : Label} → first-above high ≤ n → AtLine o n t l → AtOwner (o + 1) t l
+  pub to-next-owner : {o n : ℕ} {t : ℤ} {l : Label} → first-above high ≤ n → AtLine o n t l → AtOwner (o + 1) t l
   to-next-owner {o} {n} h at =
       let lt : o < 8 = omega (arith, above-le last) in
       record {
@@ -81,12 +80,12 @@ module _ (cells : ℕ → Lab Cell) (first last low high : ℤ) (table : ℕ) wh
       }
 
   -- past the last owner: the answer of the rules
-  pub found : {o : ℕ} {t : Tally} {l : Label} (kind : ℕ) → first-above last ≤ o → AtOwner o t l
+  pub found : {o : ℕ} {t : ℤ} {l : Label} → first-above last ≤ o → AtOwner o t l
       → _≡_ {A = Found} (record { value = value-of kind t; label = l }) (found-in kind cells (box first last low high) table)
   unfolding found-in
-  found {o} kind h at =
+  found {o} h at =
       let all = over (8 * o) 64 (omega arith) (λ i a b. owner-above first last low high table i (omega arith) (omega arith)) (at .swept) in
-      ap₂ (λ (v : ℤ) (l : Label). record { value = v; label = l }) (ap (value-of kind) (all .tally-is) ∙ value-is kind _) (all .label-is)
+      ap₂ (λ (v : ℤ) (l : Label). record { value = v; label = l }) (ap (value-of kind) (all .tally-is) ∙ value-is _ (all .within) kind) (all .label-is)
 
 -- ---- a place in the box
 
@@ -98,7 +97,7 @@ presence-at presence table bit h =
     let bit-is : (64 * table + bit) % 64 ≡ bit = omega arith in
     ap₂ (λ (w b : ℕ). eqb (getD presence w 0 / 2 ^ b % 2) 1) word-is bit-is
 
-module _ {cells : ℕ → Lab Cell} {first last low high : ℤ} {table o n : ℕ} {t : Tally} {l : Label} (at : AtLine cells first last low high table o n t l) (in-lines : n < first-above high) where
+module _ {kind : ℕ} {cells : ℕ → Lab Cell} {first last low high : ℤ} {table o n : ℕ} {t : ℤ} {l : Label} (at : AtLine kind cells first last low high table o n t l) (in-lines : n < first-above high) where
   pub bit-lt : 8 * o + n < 64
   bit-lt = omega (arith, above-le last, above-le high)
 
@@ -109,7 +108,7 @@ module _ {cells : ℕ → Lab Cell} {first last low high : ℤ} {table o n : ℕ
       let line-is : (8 * o + n) % 8 ≡ n = omega arith in
       in-yes first last low high table (8 * o + n) bit-lt (rw owner-is (at .owner-from)) (rw owner-is (at .owner-to)) (rw line-is (at .line-from)) (rw line-is in-lines)
 
-  next-line : {t' : Tally} {l' : Label} → Swept cells first last low high table (8 * o + n + 1) t' l' → AtLine cells first last low high table o (n + 1) t' l'
+  next-line : {t' : ℤ} {l' : Label} → Swept kind cells first last low high table (8 * o + n + 1) t' l' → AtLine kind cells first last low high table o (n + 1) t' l'
   next-line p = record {
     owner-from = at .owner-from;
     owner-to = at .owner-to;
@@ -118,18 +117,18 @@ module _ {cells : ℕ → Lab Cell} {first last low high : ℤ} {table o n : ℕ
     swept = rw add-assoc at p;
   }
 
-module _ (amounts : List ℤ) (presence labels : List ℕ) {first last low high : ℤ} (table : ℕ) {o n : ℕ} {t : Tally} {l l' : Label} (at : AtLine (cells-of amounts presence labels) first last low high table o n t l) (in-lines : n < first-above high) (joined : l' ≡ union l (label-at labels (64 * table + (8 * o + n)))) where
+module _ {kind : ℕ} (amounts : List ℤ) (presence labels : List ℕ) {first last low high : ℤ} (table : ℕ) {o n : ℕ} {t : ℤ} {l l' : Label} (at : AtLine kind (cells-of amounts presence labels) first last low high table o n t l) (in-lines : n < first-above high) (joined : l' ≡ union l (label-at labels (64 * table + (8 * o + n)))) where
   -- its cell is absent: only its label counts
-  pub meet-absent : (getD presence table 0 / 2 ^ (8 * o + n) % 2 ≡ 1 → ⊥) → AtLine (cells-of amounts presence labels) first last low high table o (n + 1) t l'
+  pub meet-absent : (getD presence table 0 / 2 ^ (8 * o + n) % 2 ≡ 1 → ⊥) → AtLine kind (cells-of amounts presence labels) first last low high table o (n + 1) t l'
   unfolding cells-of
   meet-absent e =
       let lt = bit-lt at in-lines in
-      next-line at in-lines (pass-absent _ _ _ (8 * o + n) (here at in-lines) joined (at .swept) (presence-at presence table (8 * o + n) lt ∙ ne-eqb _ 1 e))
+      next-line at in-lines (pass-absent kind _ _ _ (8 * o + n) (here at in-lines) joined (at .swept) (presence-at presence table (8 * o + n) lt ∙ ne-eqb _ 1 e))
 
   -- its cell is present: its amount counts too
-  pub meet-present : {t' : Tally} → getD presence table 0 / 2 ^ (8 * o + n) % 2 ≡ 1 → mag (getD amounts (64 * table + (8 * o + n)) (pos 0)) < 2147483648
-      → t' ≡ with-amount t (getD amounts (64 * table + (8 * o + n)) (pos 0)) → AtLine (cells-of amounts presence labels) first last low high table o (n + 1) t' l'
+  pub meet-present : {t' : ℤ} → getD presence table 0 / 2 ^ (8 * o + n) % 2 ≡ 1 → mag (getD amounts (64 * table + (8 * o + n)) (pos 0)) < 2147483648
+      → t' ≡ with-amount kind t (getD amounts (64 * table + (8 * o + n)) (pos 0)) → AtLine kind (cells-of amounts presence labels) first last low high table o (n + 1) t' l'
   unfolding cells-of
   meet-present e small more =
       let lt = bit-lt at in-lines in
-      next-line at in-lines (pass-present _ _ _ (8 * o + n) (here at in-lines) joined (at .swept) (presence-at presence table (8 * o + n) lt ∙ eq-eqb _ 1 e) small more)
+      next-line at in-lines (pass-present kind _ _ _ (8 * o + n) (here at in-lines) joined (at .swept) (presence-at presence table (8 * o + n) lt ∙ eq-eqb _ 1 e) small more)

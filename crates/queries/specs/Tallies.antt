@@ -1,33 +1,37 @@
 -- What a query works out of the present cells, and the numbers of a box that lie in a table.
-use mathlib.Core.List.{List}
+use mathlib.Core.List.{List, [], _∷_}
 use mathlib.Core.Bool.{cond}
 use Prim.Native.Nat.{ℕ, _+_, min}
 use lib.Dec.{eqb}
 use lib.IntN.{ℤ, pos, negsuc, _+ℤ_}
-use lib.ListN.{length}
 use lib.Signed.{ltZ}
-use Rattle.monitor.specs.Rules.{sum-of, best-of}
-use Rattle.queries.specs.declared.Tally.{Tally}
 
--- count, sum, smallest and largest of a list of amounts, as the rules define them
-unfoldable pub tally-of : List ℤ → Tally
-tally-of zs = record { count = length zs; sum = sum-of zs; least = best-of ltZ zs; most = best-of (λ x y. ltZ y x) zs }
+-- the tally of no amounts: 0, or for 10 smallest and 11 largest a number past every amount of 32 bits
+unfoldable pub start-of : ℕ → ℤ
+start-of kind = cond (eqb kind 8) (pos 0) (cond (eqb kind 9) (pos 0) (cond (eqb kind 10) (pos 2147483648) (negsuc 2147483648)))
 
--- a tally with one more amount
-unfoldable pub with-amount : Tally → ℤ → Tally
-with-amount t z =
-    cond (eqb (t .count) 0)
-    (record { count = 1; sum = z; least = z; most = z })
-    (record {
-      count = t .count + 1;
-      sum = t .sum +ℤ z;
-      least = cond (ltZ z (t .least)) z (t .least);
-      most = cond (ltZ (t .most) z) z (t .most);
-    })
+-- a tally with one more amount: 8 counts it, 9 adds it, 10 keeps the smaller, 11 the larger
+unfoldable pub with-amount : ℕ → ℤ → ℤ → ℤ
+with-amount kind t z =
+    cond (eqb kind 8)
+    (t +ℤ pos 1)
+    (cond (eqb kind 9) (t +ℤ z) (cond (eqb kind 10) (cond (ltZ z t) z t) (cond (ltZ t z) z t)))
 
--- the value of a query of this kind, from the tally of the amounts
-unfoldable pub value-of : ℕ → Tally → ℤ
-value-of kind t = cond (eqb kind 8) (pos (t .count)) (cond (eqb kind 9) (t .sum) (cond (eqb kind 10) (t .least) (t .most)))
+-- a tally with the amounts of a list
+unfoldable pub with-amounts : ℕ → ℤ → List ℤ → ℤ
+with-amounts kind t [] = t
+with-amounts kind t (z ∷ zs) = with-amounts kind (with-amount kind t z) zs
+
+-- the tally of a list of amounts
+abbrev pub tally-of : ℕ → List ℤ → ℤ
+tally-of kind zs = with-amounts kind (start-of kind) zs
+
+-- the value of a query of this kind, from the tally of the amounts: a smallest or largest that is still past every amount is 0
+unfoldable pub value-of : ℕ → ℤ → ℤ
+value-of kind t =
+    cond (eqb kind 8)
+    t
+    (cond (eqb kind 9) t (cond (eqb kind 10) (cond (ltZ (pos 2147483647) t) (pos 0) t) (cond (ltZ t (negsuc 2147483647)) (pos 0) t)))
 
 -- the first of the numbers 0 to 7 that is not below a bound, or 8
 unfoldable pub first-from : ℤ → ℕ

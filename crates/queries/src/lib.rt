@@ -4,7 +4,7 @@ ghost use Prim.Native.Nat.{_^_, _<_};
 ghost use lib.Signed.{mag};
 ghost use Rattle.monitor.specs.Call.{cells-of};
 ghost use Rattle.queries.specs.Found.{box, found-in};
-ghost use Rattle.queries.specs.Tallies.{with-amount, value-of, first-from, first-above};
+ghost use Rattle.queries.specs.Tallies.{start-of, with-amount, value-of, first-from, first-above};
 
 // The value that a query finds, not yet held to 32 bits, and the labels of all cells in its box.
 pub struct Found {
@@ -12,41 +12,31 @@ pub struct Found {
     pub label: [u64; 8],
 }
 
-// What is known of the present cells so far: how many, their sum, the smallest and the largest amount.
-struct Tally {
-    pub count: u32,
-    pub sum: i64,
-    pub least: i32,
-    pub most: i32,
+// The tally of no amounts: 0, or for 10 smallest and 11 largest a number past every amount, which the first one replaces.
+fn start(kind: u8) -> i64
+    ensures { λ r. ⌜ r ≡ start-of kind ⌝ }
+{
+    match kind {
+        8 => 0,
+        9 => 0,
+        10 => 2147483648,
+        _ => -2147483649,
+    }
 }
 
-// One more present cell; a table has 64, so that count and sum are far from their types' ends.
-fn counted(tally: Tally, amount: i32) -> Tally
-    requires { ⌜ (tally .count < 64) × (mag (tally .sum) < 2 ^ 62) ⌝ }
-    ensures { λ r. ⌜ r ≡ with-amount tally amount ⌝ }
+// A tally with one more amount, as the kind asks. One test for both 8 and 9: so the compiler takes it out of the loop that calls this.
+fn counted(kind: u8, tally: i64, amount: i32) -> i64
+    requires { ⌜ mag tally < 2 ^ 62 ⌝ }
+    ensures { λ r. ⌜ r ≡ with-amount kind tally amount ⌝ }
 {
-    if tally.count == 0 {
-        return Tally {
-            count: 1,
-            sum: amount as i64,
-            least: amount,
-            most: amount,
-        };
+    let value = amount as i64;
+    if kind / 2 == 4 {
+        return if kind == 8 { tally + 1 } else { tally + value };
     }
-    Tally {
-        count: tally.count + 1,
-        sum: tally.sum + amount as i64,
-        least: if amount < tally.least {
-            amount
-        } else {
-            tally.least
-        },
-        most: if tally.most < amount {
-            amount
-        } else {
-            tally.most
-        },
+    if kind == 10 {
+        return if value < tally { value } else { tally };
     }
+    if tally < value { value } else { tally }
 }
 
 // The first of the eight numbers that is not below `bound`, or 8.
@@ -75,15 +65,15 @@ fn first_above(bound: i32) -> usize
     bound as usize + 1
 }
 
-// The value of kind 8 count, 9 sum, 10 smallest, 11 largest.
-fn valued(kind: u8, tally: Tally) -> i64
+// The value of a tally: 0 if no cell is present.
+fn valued(kind: u8, tally: i64) -> i64
     ensures { λ r. ⌜ r ≡ value-of kind tally ⌝ }
 {
     match kind {
-        8 => tally.count as i64,
-        9 => tally.sum,
-        10 => tally.least as i64,
-        _ => tally.most as i64,
+        8 => tally,
+        9 => tally,
+        10 => if 2147483647 < tally { 0 } else { tally },
+        _ => if tally < -2147483648 { 0 } else { tally },
     }
 }
 
@@ -106,12 +96,7 @@ pub fn query(
     let start_line = first_from(low);
     let end_line = first_above(high);
     let present = presence[table];
-    let mut tally = Tally {
-        count: 0,
-        sum: 0,
-        least: 0,
-        most: 0,
-    };
+    let mut tally = start(kind);
     let mut label = [0u64; 8];
     let mut owner = first_from(first);
     while owner < end_owner {
@@ -122,7 +107,7 @@ pub fn query(
             let next = places::union(label, labels::label_at(labels, place));
             label = next;
             if (present >> bit) % 2 == 1 {
-                let more = counted(tally, amounts[place]);
+                let more = counted(kind, tally, amounts[place]);
                 tally = more;
             }
             line += 1;

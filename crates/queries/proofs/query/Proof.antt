@@ -5,20 +5,19 @@ use Prim.Native.Nat.{_+_, _-_, _*_, _≤_, _<_}
 use native.Mathlib.Omega.{arith}
 use lib.IntN.{ℤ}
 use borrow.Author.Needs.{needs}
-use mir.Syntax.{w32}
+use mir.Syntax.{w32, w64}
 use mir.Val.{toZ, ofZ}
 use mir.Facts.{toZ-ofZ}
 use Rattle.places.specs.Sets.{union}
-use Rattle.monitor.specs.Rules.{sum-of, best-of}
 use Rattle.monitor.specs.Call.{cells-of}
-use Rattle.queries.specs.Tallies.{tally-of, with-amount, first-above}
+use Rattle.queries.specs.Tallies.{with-amount, first-above}
 use Rattle.queries.proofs.Sweeps.{AtOwner, AtLine, to-first-owner, to-first-line, to-next-owner, found, bit-lt, meet-absent, meet-present}
 use Rattle.queries.proofs.query.Statement.{statement}
 use Rattle.queries.proofs.query.Tie as tie
 
 abbrev Inv-loop2 : tie.InvT-loop2
 Inv-loop2 kind table first last low high amounts presence labels end-owner start-line end-line present tally₀ label₀ owner line₀ tally label line =
-    AtLine (cells-of amounts presence labels) (toZ w32 first) (toZ w32 last) (toZ w32 low) (toZ w32 high) table owner line tally label
+    AtLine kind (cells-of amounts presence labels) (toZ w32 first) (toZ w32 last) (toZ w32 low) (toZ w32 high) table owner line (toZ w64 tally) label
 
 abbrev μ-loop2 : tie.MeasureT-loop2
 μ-loop2 kind table first last low high amounts presence labels end-owner start-line end-line present tally₀ label₀ owner line₀ tally label line =
@@ -26,7 +25,7 @@ abbrev μ-loop2 : tie.MeasureT-loop2
 
 abbrev Inv-loop : tie.InvT-loop
 Inv-loop kind table first last low high amounts presence labels end-owner start-line end-line present tally₀ label₀ owner₀ tally label owner =
-    AtOwner (cells-of amounts presence labels) (toZ w32 first) (toZ w32 last) (toZ w32 low) (toZ w32 high) table owner tally label
+    AtOwner kind (cells-of amounts presence labels) (toZ w32 first) (toZ w32 last) (toZ w32 low) (toZ w32 high) table owner (toZ w64 tally) label
 
 abbrev μ-loop : tie.MeasureT-loop
 μ-loop kind table first last low high amounts presence labels end-owner start-line end-line present tally₀ label₀ owner₀ tally label owner =
@@ -34,7 +33,7 @@ abbrev μ-loop : tie.MeasureT-loop
 
 -- a line of the box
 line-to : (c : tie.In-loop2 Inv-loop2 μ-loop2 Inv-loop μ-loop)
-    → c .before .loop2 .line < first-above (toZ w32 (ofZ w32 (c .before .before .before .before .before .before .before .before .before .args .high)))
+    → c .before .loop2 .line < first-above (toZ w32 (ofZ w32 (c .before .before .before .before .before .before .before .before .before .before .args .high)))
 line-to c = omega arith
 
 -- a bit of the table's word
@@ -56,18 +55,22 @@ mul-present c = search needs
 element-copy-out-present : tie.Need-element-copy-out-present Inv-loop2 μ-loop2 Inv-loop μ-loop
 element-copy-out-present c = search needs
 
+start-requires : tie.Need-start-requires Inv-loop2 μ-loop2 Inv-loop μ-loop
+start-requires c κs = search needs
+
 first-from-requires-2 : tie.Need-first-from-requires-2 Inv-loop2 μ-loop2 Inv-loop μ-loop
 first-from-requires-2 c κs = search needs
 
 loop-holds : tie.Need-loop-holds Inv-loop2 μ-loop2 Inv-loop μ-loop
-unfolding tally-of sum-of best-of
-loop-holds c = to-first-owner _ _ _ _ _ _ (c .first-from2 .ensures)
+loop-holds c =
+    let started = toZ-ofZ {w = w64} (record { sfits = c .before .start .ok }) ∙ c .before .start .ensures in
+    rw started (to-first-owner _ _ _ _ _ _ _ (c .first-from2 .ensures))
 
 loop2-holds : tie.Need-loop2-holds Inv-loop2 μ-loop2 Inv-loop μ-loop
 loop2-holds c =
-    let s = c .before .before .before .before .before .before .before in
+    let s = c .before .before .before .before .before .before .before .before in
     let owner-to : c .before .loop .owner < first-above (toZ w32 (ofZ w32 (s .args .last))) = omega arith in
-    to-first-line _ _ _ _ _ _ owner-to (c .before .before .before .before .before .first-from .ensures) (c .before .loop .inv)
+    to-first-line _ _ _ _ _ _ _ owner-to (c .before .before .before .before .before .before .first-from .ensures) (c .before .loop .inv)
 
 mul-bit : tie.Need-mul-bit Inv-loop2 μ-loop2 Inv-loop μ-loop
 mul-bit c = search needs
@@ -100,8 +103,7 @@ element-copy-out-counted c = omega (arith, bit-below (c .before .before .before 
 counted-requires : tie.Need-counted-requires Inv-loop2 μ-loop2 Inv-loop μ-loop
 counted-requires c κs =
     let k = c .before .before .before .before .before in
-    let p = k .before .loop2 .inv .swept in
-    omega (arith, bit-below k, p .few, p .small .sum-small)
+    omega (arith, bit-below k, k .before .loop2 .inv .swept .small)
 
 add-line : tie.Need-add-line Inv-loop2 μ-loop2 Inv-loop μ-loop
 add-line c = search needs
@@ -112,11 +114,12 @@ loop2-less c = search needs
 loop2-again : tie.Need-loop2-again Inv-loop2 μ-loop2 Inv-loop μ-loop
 loop2-again c =
     let k = c .before .before .before .before in
-    let a = k .before .before .before .before .before .before .before .before .before .args in
+    let a = k .before .before .before .before .before .before .before .before .before .before .args in
     let joined = c .before .union .ensures ∙ ap (union (k .before .loop2 .label)) (c .before .before .label-at .ensures) in
     ⊎-elim
     (λ w.
-    let more = w .3 ∙ w .2 .ensures ∙ ap (with-amount (k .before .loop2 .tally)) (toZ-ofZ (record { sfits = w .1 .given })) in
+    let kept = ap (toZ w64) (w .3) ∙ toZ-ofZ {w = w64} (record { sfits = w .2 .ok }) in
+    let more = kept ∙ w .2 .ensures ∙ ap (with-amount (a .kind) (toZ w64 (k .before .loop2 .tally))) (toZ-ofZ (record { sfits = w .1 .given })) in
     meet-present (a .amounts .now) (a .presence .now) (a .labels .now) (a .table) (k .before .loop2 .inv) (line-to k) joined (w .0 .taken) (w .1 .given) more)
     (λ w. rw (w .1) (meet-absent (a .amounts .now) (a .presence .now) (a .labels .now) (a .table) (k .before .loop2 .inv) (line-to k) joined (w .0 .left)))
     (c .if1 .came)
@@ -129,21 +132,21 @@ loop-less c = search needs
 
 loop-again : tie.Need-loop-again Inv-loop2 μ-loop2 Inv-loop μ-loop
 loop-again c =
-    let s = c .before .before .before .before .before .before .before .before .before in
+    let s = c .before .before .before .before .before .before .before .before .before .before in
     let past : first-above (toZ w32 (ofZ w32 (s .args .high))) ≤ c .before .loop2 .line = omega arith in
-    to-next-owner _ _ _ _ _ _ past (c .before .loop2 .inv)
+    to-next-owner _ _ _ _ _ _ _ past (c .before .loop2 .inv)
 
 valued-requires : tie.Need-valued-requires Inv-loop2 μ-loop2 Inv-loop μ-loop
 valued-requires c κs = search needs
 
 returns : tie.Need-returns Inv-loop2 μ-loop2 Inv-loop μ-loop
 returns c =
-    let s = c .before .before .before .before .before .before .before .before in
+    let s = c .before .before .before .before .before .before .before .before .before in
     let o = c .before .before .loop in
     let past : first-above (toZ w32 (ofZ w32 (s .args .last))) ≤ o .owner = omega arith in
     let value = toZ-ofZ (record { sfits = c .valued .ok }) ∙ c .valued .ensures in
     ap (λ (v : ℤ). record { value = v; label = o .label }) value
-    ∙ simp (toZ-ofZ (s .fits .first), toZ-ofZ (s .fits .last), toZ-ofZ (s .fits .low), toZ-ofZ (s .fits .high)) at (found _ _ _ _ _ _ (s .args .kind) past (o .inv))
+    ∙ simp (toZ-ofZ (s .fits .first), toZ-ofZ (s .fits .last), toZ-ofZ (s .fits .low), toZ-ofZ (s .fits .high)) at (found (s .args .kind) _ _ _ _ _ _ past (o .inv))
 
 pub query-spec : {M : Type 1} → statement M
 query-spec =
@@ -158,6 +161,7 @@ query-spec =
     first-above-requires-2
     mul-present
     element-copy-out-present
+    start-requires
     first-from-requires-2
     loop-holds
     loop2-holds
