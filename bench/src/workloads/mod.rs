@@ -1,4 +1,4 @@
-//! The five workloads. Each is one call on a book that is built here.
+//! The workloads. Each is one call on a book that is built here.
 
 mod arithmetic;
 mod full;
@@ -19,11 +19,12 @@ pub struct Workload {
     pub answer: Answer,
 }
 
-pub fn all() -> [Workload; 5] {
+pub fn all() -> [Workload; 6] {
     [
         run("arithmetic", arithmetic::book(), arithmetic::COST),
         run("queries", queries::book(), queries::COST),
         run("postings", postings::book(), postings::COST),
+        run("smallest", smallest(), 2),
         Workload {
             name: "reading",
             file: full::book().encode(),
@@ -47,6 +48,15 @@ fn run(name: &'static str, book: Book, cost: u32) -> Workload {
         call: Call::Run { budget: BUDGET },
         answer: [0, 0, cost, 8],
     }
+}
+
+/// What every run costs: one out of a constant.
+fn smallest() -> Book {
+    let mut builder = Builder::new();
+    let one = builder.constant(1);
+    let tell = builder.out(1, one);
+    builder.program(0, tell);
+    builder.book
 }
 
 /// One command after another, at least one.
