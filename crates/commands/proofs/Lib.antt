@@ -1,3 +1,4 @@
+pub mod Chains
 pub mod Firing
 pub mod Lents
 pub mod Meanings

@@ -190,7 +190,7 @@ pub fn exec(
     }
 }
 
-// 18: a then b.
+// 18: a then b. Where b is a sequence too, it is the next turn of the loop, so that a long list of commands needs one frame.
 fn sequence(
     file: &[u8],
     nodes: usize,
@@ -217,53 +217,67 @@ fn sequence(
         (store (now (amounts .entry)) (now (presence .entry)) (now (labels .entry)) (now (read .entry)) (now (write .entry)) (now (trace .entry))) left used r (vars-of (now (vars .exit)) (now (tags .exit)))
         (store (now (amounts .exit)) (now (presence .exit)) (now (labels .exit)) (now (read .exit)) (now (write .exit)) (now (trace .exit))) ⌝ }
 {
-    let at = nodes + 16 * n;
-    let a = numbers::u16_at(file, at + 2);
-    let first = exec(
-        file,
-        nodes,
-        costs,
-        public,
-        a,
-        above,
-        user,
-        left,
-        ctx,
-        read,
-        write,
-        vars,
-        tags,
-        amounts,
-        presence,
-        labels,
-        trace,
-        used,
-    );
-    let outcome = first.outcome;
-    let Outcome::Done = outcome else {
-        return first;
-    };
-    let b = numbers::u16_at(file, at + 4);
-    exec(
-        file,
-        nodes,
-        costs,
-        public,
-        b,
-        above,
-        user,
-        first.left,
-        ctx,
-        read,
-        write,
-        vars,
-        tags,
-        amounts,
-        presence,
-        labels,
-        trace,
-        first.used,
-    )
+    let mut then = n;
+    let mut rest = left;
+    let mut written = used;
+    loop {
+        let at = nodes + 16 * then;
+        let a = numbers::u16_at(file, at + 2);
+        let first = exec(
+            file,
+            nodes,
+            costs,
+            public,
+            a,
+            above,
+            user,
+            rest,
+            ctx,
+            read,
+            write,
+            vars,
+            tags,
+            amounts,
+            presence,
+            labels,
+            trace,
+            written,
+        );
+        let outcome = first.outcome;
+        let Outcome::Done = outcome else {
+            return first;
+        };
+        let b = numbers::u16_at(file, at + 4);
+        if file[nodes + 16 * b] != 18 {
+            return exec(
+                file,
+                nodes,
+                costs,
+                public,
+                b,
+                above,
+                user,
+                first.left,
+                ctx,
+                read,
+                write,
+                vars,
+                tags,
+                amounts,
+                presence,
+                labels,
+                trace,
+                first.used,
+            );
+        }
+        let cost = costs[18];
+        if first.left < cost {
+            return machine::stopped(21, b, first.left, first.used);
+        }
+        then = b;
+        rest = first.left - cost;
+        written = first.used;
+    }
 }
 
 // 19: if a nonzero then b else c; inside, the context gains the condition's label.

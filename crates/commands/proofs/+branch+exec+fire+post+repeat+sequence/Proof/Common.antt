@@ -1,6 +1,7 @@
 -- The measures of the cycle, and what each member may assume of the others.
 use Prim.Native.Nat.{ℕ, _+_, _-_, _*_, _<_}
 use Rattle.machine.specs.Store.{vars-of, store}
+use Rattle.commands.proofs.Chains.{Chain}
 use Rattle.commands.proofs.Turns.{Turning}
 use borrow.Fn.Kinds.{In}
 use borrow.Fn.PlainCycle.{Measures, is, falls, and}
@@ -105,7 +106,7 @@ abbrev pub repeat-cs : ℕ → repeat-lts.Claims
 repeat-cs t = (decide-reads.Asked, decide-reads.Learnt, ended-reads.Asked, ended-reads.Learnt, exec-below t, exec.Post, pay-reads.Asked, pay-reads.Learnt)
 
 abbrev pub sequence-cs : ℕ → sequence-lts.Claims
-sequence-cs t = (u16-at-reads.Asked, u16-at-reads.Learnt, exec-below t, exec.Post)
+sequence-cs t = (u16-at-reads.Asked, u16-at-reads.Learnt, exec-below t, exec.Post, stopped-reads.Asked, stopped-reads.Learnt)
 
 abbrev pub repeat-Inv-loop : repeat-lts.InvT-loop
 repeat-Inv-loop file nodes costs public n above user left ctx read₀ write₀ vars₀ tags₀ amounts₀ presence₀ labels₀ trace₀ used inner₀ rest₀ written₀ read write vars tags amounts presence labels trace inner rest written =
@@ -114,4 +115,13 @@ repeat-Inv-loop file nodes costs public n above user left ctx read₀ write₀ v
 
 abbrev pub repeat-μ-loop : repeat-lts.MeasureT-loop
 repeat-μ-loop file nodes costs public n above user left ctx read₀ write₀ vars₀ tags₀ amounts₀ presence₀ labels₀ trace₀ used inner₀ rest₀ written₀ read write vars tags amounts presence labels trace inner rest written =
+    rest
+
+abbrev pub sequence-Inv-loop : sequence-lts.InvT-loop
+sequence-Inv-loop file nodes costs public n above user left ctx read₀ write₀ vars₀ tags₀ amounts₀ presence₀ labels₀ trace₀ used then₀ rest₀ written₀ read write vars tags amounts presence labels trace then rest written =
+    Chain file ctx user above n (vars-of vars₀ tags₀) (store amounts₀ presence₀ labels₀ read₀ write₀ trace₀) left used then (vars-of vars tags)
+    (store amounts presence labels read write trace) rest written
+
+abbrev pub sequence-μ-loop : sequence-lts.MeasureT-loop
+sequence-μ-loop file nodes costs public n above user left ctx read₀ write₀ vars₀ tags₀ amounts₀ presence₀ labels₀ trace₀ used then₀ rest₀ written₀ read write vars tags amounts presence labels trace then rest written =
     rest
