@@ -105,3 +105,14 @@ pub fn failed(answer: Value, left: u32, used: usize) -> Ran
         Value::Stopped(number, n) => stopped(number, n, left, used),
     }
 }
+
+// The same answer, made anew from its fields: handed on whole, it is copied by wide loads, which wait for the narrow stores that made it.
+pub fn passed(answer: Ran) -> Ran
+    ensures { λ r. ⌜ r ≡ answer ⌝ }
+{
+    let outcome = answer.outcome;
+    match outcome {
+        Outcome::Done => finished(answer.left, answer.used),
+        Outcome::Stopped(number, n) => stopped(number, n, answer.left, answer.used),
+    }
+}
