@@ -10,7 +10,7 @@ use Rattle.monitor.specs.Run.{State, Rec, stop, M, next, spend, pay}
 use Rattle.monitor.specs.Rules.{cost-at, exec}
 use Rattle.machine.specs.Ready.{script-of}
 use Rattle.machine.specs.Store.{Store, state, with-records}
-use Rattle.machine.specs.Promises.{ran, ended, Does, Enters, Commands}
+use Rattle.machine.specs.Promises.{ran, ended, Does, DoesAside, Enters, Commands}
 use Rattle.machine.specs.declared.Outcome.the-variants.{Stopped}
 use Rattle.machine.specs.declared.Ran.{Ran}
 use Rattle.machine.proofs.Traces.{with-length, with-both}
@@ -37,6 +37,10 @@ same-trace {x = x} {used = used} d = same-length (x .trace) used (d .records) (d
 pub answers : {m : ℕ → M (Unit {0})} {vars vars' : ℕ → Lab ℤ} {x x' : Store} {left used : ℕ} {q r : Ran}
     → q ≡ r → Does m vars x left used r vars' x' → Does m vars x left used q vars' x'
 answers {m} {vars} {vars'} {x} {x'} {left} {used} e d = subst (λ (a : Ran). Does m vars x left used a vars' x') (sym e) d
+
+pub answers-aside : {m : ℕ → M (Unit {0})} {x x' : Store} {left used : ℕ} {q r : Ran}
+    → q ≡ r → DoesAside m x left used r x' → DoesAside m x left used q x'
+answers-aside {m} {x} {x'} {left} {used} e d = subst (λ (a : Ran). DoesAside m x left used a x') (sym e) d
 
 -- ---- entering a node
 

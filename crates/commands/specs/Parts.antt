@@ -1,8 +1,8 @@
 -- The parts of commands that the code takes apart.
 use mathlib.Core.Path.{_≡_}
 use mathlib.Core.List.{List}
-use mathlib.Core.Bool.{cond}
-use Prim.Native.Nat.{ℕ, _-_}
+use mathlib.Core.Bool.{true, false, cond}
+use Prim.Native.Nat.{ℕ, _-_, _≤_, _<_}
 use lib.Dec.{eqb, ltb}
 use lib.IntN.{ℤ}
 use Rattle.places.specs.Sets.{union}
@@ -18,9 +18,16 @@ use Rattle.machine.specs.declared.Valued.{Valued}
 use Rattle.machine.specs.declared.Outcome.{Outcome}
 use Rattle.machine.specs.declared.Outcome.the-variants.{Done, Stopped}
 use Rattle.machine.specs.declared.Ran.{Ran}
+use Rattle.commands.specs.declared.Head.{Head}
 use Rattle.commands.specs.declared.Next.{Next}
 use Rattle.commands.specs.declared.Next.the-variants.{Enter, End}
 use Rattle.commands.specs.declared.Decided.{Decided}
+
+-- what executing command n, with node x, starts with: a sequence (18) with its first half, once its own cost is paid; any other with itself
+pub data Heads (x : NodeRecord) (n left cost : ℕ) : Head → Type 0 where
+  unpaid : x .kind ≡ 18 → left < cost → Heads x n left cost (record { command = n; left = left; more = true; fits = false })
+  list : x .kind ≡ 18 → cost ≤ left → Heads x n left cost (record { command = x .a; left = left - cost; more = true; fits = true })
+  single : (x .kind ≡ 18 → ⊥) → Heads x n left cost (record { command = n; left = left; more = false; fits = true })
 
 -- where the value of its test leads an if (19) or a while (20)
 unfoldable pub leads : NodeRecord → Value → Next

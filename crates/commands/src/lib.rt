@@ -17,7 +17,7 @@ ghost use Rattle.machine.specs.Ready.{Ready, Node, Lent};
 ghost use Rattle.machine.specs.Store.{vars-of, store, cell};
 ghost use Rattle.machine.specs.Promises.{ran, Does, DoesAside, Enters, Commands};
 ghost use Rattle.machine.specs.Writes.{key-of, Fires};
-ghost use Rattle.commands.specs.Parts.{leads, end-of, Decides, paid};
+ghost use Rattle.commands.specs.Parts.{Heads, leads, end-of, Decides, paid};
 
 // Where a test leads, or the stop on the way: a command to enter, or the end of the command whose test it is.
 pub enum Next {
@@ -32,7 +32,15 @@ pub struct Decided {
     pub inner: [u64; 8],
 }
 
-// Executes command `n`: pays its cost, or stops with 21, and does what its kind says.
+// What executing a command starts with: a command to enter, the budget for it, whether more follow, and whether the cost so far fits.
+pub struct Head {
+    pub command: usize,
+    pub left: u32,
+    pub more: bool,
+    pub fits: bool,
+}
+
+// Executes command `n`. A sequence is a loop over its list of commands: a long list needs one frame, and the one call of `enter` is compiled in place.
 pub fn exec(
     file: &[u8],
     nodes: usize,
@@ -59,14 +67,109 @@ pub fn exec(
         (store (now (amounts .entry)) (now (presence .entry)) (now (labels .entry)) (now (read .entry)) (now (write .entry)) (now (trace .entry))) left used r (vars-of (now (vars .exit)) (now (tags .exit)))
         (store (now (amounts .exit)) (now (presence .exit)) (now (labels .exit)) (now (read .exit)) (now (write .exit)) (now (trace .exit))) ⌝ }
 {
-    let kind = file[nodes + 16 * n];
-    let cost = costs[kind as usize];
-    if left < cost {
-        return machine::stopped(21, n, left, used);
+    let mut turn = n;
+    let mut rest = left;
+    let mut written = used;
+    loop {
+        let head = head_of(file, nodes, costs, turn, rest);
+        if !head.fits {
+            return machine::stopped(21, turn, rest, written);
+        }
+        let ran = enter(
+            file,
+            nodes,
+            costs,
+            public,
+            head.command,
+            above,
+            user,
+            head.left,
+            ctx,
+            read,
+            write,
+            vars,
+            tags,
+            amounts,
+            presence,
+            labels,
+            trace,
+            written,
+        );
+        let outcome = ran.outcome;
+        let Outcome::Done = outcome else {
+            return machine::passed(ran);
+        };
+        if !head.more {
+            return machine::finished(ran.left, ran.used);
+        }
+        turn = numbers::u16_at(file, nodes + 16 * turn + 4);
+        rest = ran.left;
+        written = ran.used;
     }
-    let rest = left - cost;
-    match kind {
-        18 => sequence(
+}
+
+// 18, a then b: its cost is paid, a is entered, and b follows. Any other command is entered itself, and pays there.
+fn head_of(file: &[u8], nodes: usize, costs: &[u32; 27], n: usize, left: u32) -> Head
+    requires { ⌜ Ready (now file) nodes (now costs) ⌝ }
+    requires { ⌜ Node command (now file) n ⌝ }
+    ensures { λ r. ⌜ Heads (node-at (decode (now (file .entry))) n) n left (getD (now (costs .entry)) 18 0) r ⌝ }
+{
+    let at = nodes + 16 * n;
+    if file[at] != 18 {
+        return Head {
+            command: n,
+            left,
+            more: false,
+            fits: true,
+        };
+    }
+    let cost = costs[18];
+    if left < cost {
+        return Head {
+            command: n,
+            left,
+            more: true,
+            fits: false,
+        };
+    }
+    Head {
+        command: numbers::u16_at(file, at + 2),
+        left: left - cost,
+        more: true,
+        fits: true,
+    }
+}
+
+// Enters one command: pays its cost, or stops with 21, and does what its kind says. A sequence in first place is a list of its own.
+fn enter(
+    file: &[u8],
+    nodes: usize,
+    costs: &[u32; 27],
+    public: &[u64; 8],
+    n: usize,
+    above: usize,
+    user: usize,
+    left: u32,
+    ctx: &[u64; 8],
+    read: &mut [[u64; 8]; 8],
+    write: &mut [[u64; 8]; 8],
+    vars: &mut [i32; 16],
+    tags: &mut [u64; 128],
+    amounts: &mut [i32; 512],
+    presence: &mut [u64; 8],
+    labels: &mut [u64; 4096],
+    trace: &mut [u8],
+    used: usize,
+) -> Ran
+    requires { ⌜ Lent (now file) nodes (now costs) (now public) (now trace) used ⌝ }
+    requires { ⌜ Node command (now file) n × (user < 8) ⌝ }
+    ensures { λ r. ⌜ Does (Enters (now (file .entry)) (now (ctx .entry)) user above n) (vars-of (now (vars .entry)) (now (tags .entry)))
+        (store (now (amounts .entry)) (now (presence .entry)) (now (labels .entry)) (now (read .entry)) (now (write .entry)) (now (trace .entry))) left used r (vars-of (now (vars .exit)) (now (tags .exit)))
+        (store (now (amounts .exit)) (now (presence .exit)) (now (labels .exit)) (now (read .exit)) (now (write .exit)) (now (trace .exit))) ⌝ }
+{
+    let kind = file[nodes + 16 * n];
+    if kind == 18 {
+        return machine::passed(exec(
             file,
             nodes,
             costs,
@@ -74,7 +177,7 @@ pub fn exec(
             n,
             above,
             user,
-            rest,
+            left,
             ctx,
             read,
             write,
@@ -85,7 +188,14 @@ pub fn exec(
             labels,
             trace,
             used,
-        ),
+        ));
+    }
+    let cost = costs[kind as usize];
+    if left < cost {
+        return machine::stopped(21, n, left, used);
+    }
+    let rest = left - cost;
+    match kind {
         19 => branch(
             file,
             nodes,
@@ -190,96 +300,6 @@ pub fn exec(
     }
 }
 
-// 18: a then b. Where b is a sequence too, it is the next turn of the loop, so that a long list of commands needs one frame.
-fn sequence(
-    file: &[u8],
-    nodes: usize,
-    costs: &[u32; 27],
-    public: &[u64; 8],
-    n: usize,
-    above: usize,
-    user: usize,
-    left: u32,
-    ctx: &[u64; 8],
-    read: &mut [[u64; 8]; 8],
-    write: &mut [[u64; 8]; 8],
-    vars: &mut [i32; 16],
-    tags: &mut [u64; 128],
-    amounts: &mut [i32; 512],
-    presence: &mut [u64; 8],
-    labels: &mut [u64; 4096],
-    trace: &mut [u8],
-    used: usize,
-) -> Ran
-    requires { ⌜ Lent (now file) nodes (now costs) (now public) (now trace) used ⌝ }
-    requires { ⌜ Node command (now file) n × (user < 8) × (node-at (decode (now file)) n .kind ≡ 18) ⌝ }
-    ensures { λ r. ⌜ Does (Commands (now (file .entry)) (now (ctx .entry)) user above n) (vars-of (now (vars .entry)) (now (tags .entry)))
-        (store (now (amounts .entry)) (now (presence .entry)) (now (labels .entry)) (now (read .entry)) (now (write .entry)) (now (trace .entry))) left used r (vars-of (now (vars .exit)) (now (tags .exit)))
-        (store (now (amounts .exit)) (now (presence .exit)) (now (labels .exit)) (now (read .exit)) (now (write .exit)) (now (trace .exit))) ⌝ }
-{
-    let mut then = n;
-    let mut rest = left;
-    let mut written = used;
-    loop {
-        let at = nodes + 16 * then;
-        let a = numbers::u16_at(file, at + 2);
-        let first = exec(
-            file,
-            nodes,
-            costs,
-            public,
-            a,
-            above,
-            user,
-            rest,
-            ctx,
-            read,
-            write,
-            vars,
-            tags,
-            amounts,
-            presence,
-            labels,
-            trace,
-            written,
-        );
-        let outcome = first.outcome;
-        let Outcome::Done = outcome else {
-            return first;
-        };
-        let b = numbers::u16_at(file, at + 4);
-        if file[nodes + 16 * b] != 18 {
-            return exec(
-                file,
-                nodes,
-                costs,
-                public,
-                b,
-                above,
-                user,
-                first.left,
-                ctx,
-                read,
-                write,
-                vars,
-                tags,
-                amounts,
-                presence,
-                labels,
-                trace,
-                first.used,
-            );
-        }
-        let cost = costs[18];
-        if first.left < cost {
-            return machine::stopped(21, b, first.left, first.used);
-        }
-        then = b;
-        rest = first.left - cost;
-        written = first.used;
-    }
-}
-
 // 19: if a nonzero then b else c; inside, the context gains the condition's label.
 fn branch(
     file: &[u8],
@@ -325,7 +345,7 @@ fn branch(
         return ended(next, test.left, used);
     };
     let inner = test.inner;
-    exec(
+    machine::passed(exec(
         file,
         nodes,
         costs,
@@ -344,7 +364,7 @@ fn branch(
         labels,
         trace,
         used,
-    )
+    ))
 }
 
 // 20: while a nonzero do b, a loop; its cost is paid anew for each test, and the context has the labels of all tests so far.
@@ -420,7 +440,7 @@ fn repeat(
         let turned = pay(ran, n, costs);
         let outcome = turned.outcome;
         let Outcome::Done = outcome else {
-            return turned;
+            return machine::passed(turned);
         };
         rest = turned.left;
         written = turned.used;
@@ -511,7 +531,7 @@ fn pay(body: Ran, n: usize, costs: &[u32; 27]) -> Ran
 {
     let outcome = body.outcome;
     let Outcome::Done = outcome else {
-        return body;
+        return machine::passed(body);
     };
     let cost = costs[20];
     let left = body.left;
@@ -654,9 +674,9 @@ fn fire(
     );
     let outcome = ran.outcome;
     let Outcome::Done = outcome else {
-        return ran;
+        return machine::passed(ran);
     };
-    fire(
+    machine::passed(fire(
         file,
         nodes,
         costs,
@@ -677,5 +697,5 @@ fn fire(
         labels,
         trace,
         ran.used,
-    )
+    ))
 }

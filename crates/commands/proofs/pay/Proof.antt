@@ -18,12 +18,16 @@ enum-told c = c .match .keys1
 enum-told-2 : tie.Need-enum-told-2
 enum-told-2 c = c .match .keys2
 
+passed-requires : tie.Need-passed-requires
+passed-requires c κs = tt
+
 returns : tie.Need-returns
 unfolding paid
 returns c =
-    let a = c .before .before .args in
-    let told = c .enum-told2 .given .1 in
-    (λ i. ran (told i) (a .body .left) (a .body .used))
+    let a = c .before .before .before .args in
+    let told = c .before .enum-told2 .given .1 in
+    c .passed .ensures
+    ∙ (λ i. ran (told i) (a .body .left) (a .body .used))
     ∙ sym (ap (λ (o : Outcome). paid o (a .body .left) (a .body .used) (a .n) (getD (a .costs .now) 20 0)) told)
 
 element-copy-out-cost : tie.Need-element-copy-out-cost
@@ -61,6 +65,7 @@ pay-spec =
     (tie.spec
     enum-told
     enum-told-2
+    passed-requires
     returns
     element-copy-out-cost
     stopped-requires

@@ -6,11 +6,13 @@ use Rattle.book.specs.Kinds.{between}
 use Rattle.machine.specs.Store.{vars-of, store}
 use Rattle.machine.proofs.Nodes.{while-b}
 use Rattle.commands.proofs.Orders.{decided-less}
+use Rattle.commands.proofs.Chains.{weight-most}
+use Rattle.commands.proofs.Steps.{answers}
 use Rattle.commands.proofs.Turns.{unturned, turned-trace, turned-room, turned-ends, turned-more, turn-ends, body-is, turn-stops, turn-less, turn-goes}
 use Rattle.commands.proofs.Lents.{cost-known, child-node, lent-after}
 use Rattle.commands.proofs.repeat.Reads as repeat
-use Rattle.commands.proofs.+branch+exec+fire+post+repeat+sequence.Lts-repeat as repeat-lts
-use Rattle.commands.proofs.+branch+exec+fire+post+repeat+sequence.Proof.Common.{repeat-at, repeat-cs, repeat-Inv-loop, repeat-μ-loop}
+use Rattle.commands.proofs.+branch+enter+exec+fire+post+repeat.Lts-repeat as repeat-lts
+use Rattle.commands.proofs.+branch+enter+exec+fire+post+repeat.Proof.Common.{repeat-at, repeat-cs, repeat-Inv-loop, repeat-μ-loop}
 
 pub repeat-loop-holds : (t : ℕ) → repeat-lts.Need-loop-holds (repeat-cs t) (repeat-at t) repeat.Post repeat-Inv-loop repeat-μ-loop
 repeat-loop-holds t c =
@@ -70,7 +72,7 @@ repeat-exec-requires t c κs =
     let mine = start .pre .1 .1 in
     let now = after-loop .loop in
     let turning = now .inv in
-    (omega (arith, start .pre .0, decided-less (after-decide .decide .ensures), turning .turned .within), (lent-after lent (turned-trace (a .file .now) (a .user) (a .above) (a .n) (turning .turned)) (turning .turned .fits), (child-node (body-is (a .file .now) (a .user) (a .above) (a .n) (mine .2) (now .inner) (store (now .amounts) (now .presence) (now .labels) (now .read) (now .write) (now .trace)) (now .written) (after-decide .decide .ensures) (after-next .next .given .1)) (while-b (a .file .now) (lent .ready .accepted) (a .n) (mine .0 .inside) (mine .2)), mine .1)))
+    (omega (arith, start .pre .0, decided-less (after-decide .decide .ensures), turning .turned .within, weight-most (a .file .now) (after-next .next .given .0 .0) (after-decide .decide .result .left)), (lent-after lent (turned-trace (a .file .now) (a .user) (a .above) (a .n) (turning .turned)) (turning .turned .fits), (child-node (body-is (a .file .now) (a .user) (a .above) (a .n) (mine .2) (now .inner) (store (now .amounts) (now .presence) (now .labels) (now .read) (now .write) (now .trace)) (now .written) (after-decide .decide .ensures) (after-next .next .given .1)) (while-b (a .file .now) (lent .ready .accepted) (a .n) (mine .0 .inside) (mine .2)), mine .1)))
 
 pub repeat-pay-requires : (t : ℕ) → repeat-lts.Need-pay-requires (repeat-cs t) (repeat-at t) repeat.Post repeat-Inv-loop repeat-μ-loop
 repeat-pay-requires t c κs = tt
@@ -81,9 +83,12 @@ repeat-enum-told-2 t c = c .match2 .keys1
 pub repeat-enum-told-3 : (t : ℕ) → repeat-lts.Need-enum-told-3 (repeat-cs t) (repeat-at t) repeat.Post repeat-Inv-loop repeat-μ-loop
 repeat-enum-told-3 t c = c .match2 .keys2
 
+pub repeat-passed-requires : (t : ℕ) → repeat-lts.Need-passed-requires (repeat-cs t) (repeat-at t) repeat.Post repeat-Inv-loop repeat-μ-loop
+repeat-passed-requires t c κs = tt
+
 pub repeat-same-length-2 : (t : ℕ) → repeat-lts.Need-same-length-2 (repeat-cs t) (repeat-at t) repeat.Post repeat-Inv-loop repeat-μ-loop
 repeat-same-length-2 t c =
-    let after-exec = c .before .before .before .before .before in
+    let after-exec = c .before .before .before .before .before .before in
     let after-loop = after-exec .before .before .before .before .before .before .before .before .before .before .before .before .before .before .before .before .before .before .before .before .before in
     let start = after-loop .before .before .before .before in
     let a = start .args in
@@ -93,7 +98,8 @@ repeat-same-length-2 t c =
 
 pub repeat-returns-2 : (t : ℕ) → repeat-lts.Need-returns-2 (repeat-cs t) (repeat-at t) repeat.Post repeat-Inv-loop repeat-μ-loop
 repeat-returns-2 t c =
-    let after-pay = c .before .before in
+    let after-enum-told3 = c .before in
+    let after-pay = after-enum-told3 .before .before in
     let after-exec = after-pay .before .before .before in
     let after-next = after-exec .before .before .before .before .before .before .before .before .before .before .before .before in
     let after-decide = after-next .before .before in
@@ -105,7 +111,7 @@ repeat-returns-2 t c =
     let price = cost-known 20 (lent .ready) (mine .0) (sym (mine .2)) in
     let now = after-loop .loop in
     let turning = now .inv in
-    turned-ends (a .file .now) (a .user) (a .above) (a .n) (turning .turned) (turn-stops (a .file .now) (a .user) (a .above) (a .n) (mine .2) (now .inner) (store (now .amounts) (now .presence) (now .labels) (now .read) (now .write) (now .trace)) (now .written) (after-decide .decide .ensures) (after-next .next .given .1) (after-exec .exec .ensures) price (after-pay .pay .ensures) (c .enum-told3 .given .1))
+    answers (c .passed .ensures) (turned-ends (a .file .now) (a .user) (a .above) (a .n) (turning .turned) (turn-stops (a .file .now) (a .user) (a .above) (a .n) (mine .2) (now .inner) (store (now .amounts) (now .presence) (now .labels) (now .read) (now .write) (now .trace)) (now .written) (after-decide .decide .ensures) (after-next .next .given .1) (after-exec .exec .ensures) price (after-pay .pay .ensures) (after-enum-told3 .enum-told3 .given .1)))
 
 pub repeat-loop-less : (t : ℕ) → repeat-lts.Need-loop-less (repeat-cs t) (repeat-at t) repeat.Post repeat-Inv-loop repeat-μ-loop
 repeat-loop-less t c =

@@ -1,6 +1,6 @@
 -- The needs of `post`.
 use native.Mathlib.Omega.{arith}
-use mathlib.Core.Path.{refl, _∙_}
+use mathlib.Core.Path.{refl}
 use Prim.Native.Nat.{ℕ}
 use mir.Syntax.{w32}
 use mir.Facts.{toZ-ofZ}
@@ -8,8 +8,8 @@ use Rattle.commands.proofs.Steps.{answers}
 use Rattle.commands.proofs.Firing.{fires-as}
 use Rattle.commands.proofs.Lents.{lent-after}
 use Rattle.commands.proofs.post.Reads as post
-use Rattle.commands.proofs.+branch+exec+fire+post+repeat+sequence.Lts-post as post-lts
-use Rattle.commands.proofs.+branch+exec+fire+post+repeat+sequence.Proof.Common.{post-at, post-cs}
+use Rattle.commands.proofs.+branch+enter+exec+fire+post+repeat.Lts-post as post-lts
+use Rattle.commands.proofs.+branch+enter+exec+fire+post+repeat.Proof.Common.{post-at, post-cs}
 
 pub post-post-requires : (t : ℕ) → post-lts.Need-post-requires (post-cs t) (post-at t) post.Post
 post-post-requires t c κs =
