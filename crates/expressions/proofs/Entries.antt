@@ -2,7 +2,7 @@
 use mathlib.Core.Path.{_≡_, refl, sym, ap, _∙_}
 use mathlib.Core.List.{List}
 use mathlib.Core.Bool.{Bool, true, false, cond, _||_}
-use Prim.Native.Nat.{ℕ, _+_, _-_, _*_, _≤_, _<_}
+use Prim.Native.Nat.{ℕ, zero, suc, _+_, _-_, _*_, _≤_, _<_}
 use native.Mathlib.Decide.{ℕ-discrete}
 use native.Mathlib.Omega.{arith}
 use lib.IntN.{ℤ, pos}
@@ -27,6 +27,7 @@ use Rattle.expressions.specs.Joins.{Joins}
 use Rattle.expressions.specs.declared.Evaluated.{Evaluated}
 use Rattle.expressions.proofs.Steps.{valued, evaluated, paid, unpaid}
 use Rattle.expressions.proofs.Parts.{stop-joins, constant-gives, variable-gives}
+use Rattle.expressions.proofs.Bounds.{bound-of}
 
 -- no entry is free, so that fuel lasts
 cost-least : (kind : ℕ) → 1 ≤ cost-of kind
@@ -127,18 +128,22 @@ module _ {file : List ℕ} {nodes : ℕ} {costs : List ℕ} {n : ℕ} (ready : R
     pub pair-second : v ≡ le16 file (nodes + 16 * n + 4) → Child expression file n v
     pair-second q = child-of (q ∙ read .b) (pair-b file (ready .accepted) n (node .inside) e)
 
-  module _ (e : between 8 11 (node-at (decode file) n .kind) ≡ true) {v : ℕ} where
-    pub query-table : v ≡ byte file (nodes + 16 * n + 1) → v < 8
+  module _ (e : between 8 11 (node-at (decode file) n .kind) ≡ true) where
+    pub query-table : {v : ℕ} → v ≡ byte file (nodes + 16 * n + 1) → v < 8
     query-table q = rw (q ∙ read .p) (query-p file (ready .accepted) n (node .inside) e)
 
-    pub query-first : v ≡ le16 file (nodes + 16 * n + 2) → Child expression file n v
-    query-first q = child-of (q ∙ read .a) (query-a file (ready .accepted) n (node .inside) e)
+    -- bound i, by its two bytes
+    bound-read : (i : ℕ) → i < 4 → (le16 file (nodes + 16 * n + 2 + 2 * i) ≡ bound-of (node-at (decode file) n) i) × Child expression file n (bound-of (node-at (decode file) n) i)
+    unfolding bound-of
+    bound-read zero h = (ap (le16 file) (omega arith) ∙ read .a, query-a file (ready .accepted) n (node .inside) e)
+    bound-read (suc zero) h = (ap (le16 file) (omega arith) ∙ read .b, query-b file (ready .accepted) n (node .inside) e)
+    bound-read (suc (suc zero)) h = (ap (le16 file) (omega arith) ∙ read .c, query-c file (ready .accepted) n (node .inside) e)
+    bound-read (suc (suc (suc zero))) h = (ap (le16 file) (omega arith) ∙ read .d, query-d file (ready .accepted) n (node .inside) e)
+    bound-read (suc (suc (suc (suc i)))) h = absurd (omega arith)
 
-    pub query-second : v ≡ le16 file (nodes + 16 * n + 4) → Child expression file n v
-    query-second q = child-of (q ∙ read .b) (query-b file (ready .accepted) n (node .inside) e)
+    module _ {i : ℕ} (h : i < 4) {v : ℕ} (q : v ≡ le16 file (nodes + 16 * n + 2 + 2 * i)) where
+      pub query-bound-is : v ≡ bound-of (node-at (decode file) n) i
+      query-bound-is = q ∙ bound-read i h .0
 
-    pub query-third : v ≡ le16 file (nodes + 16 * n + 6) → Child expression file n v
-    query-third q = child-of (q ∙ read .c) (query-c file (ready .accepted) n (node .inside) e)
-
-    pub query-fourth : v ≡ le16 file (nodes + 16 * n + 8) → Child expression file n v
-    query-fourth q = child-of (q ∙ read .d) (query-d file (ready .accepted) n (node .inside) e)
+      pub query-bound : Child expression file n v
+      query-bound = child-of query-bound-is (bound-read i h .1)

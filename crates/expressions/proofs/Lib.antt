@@ -1,3 +1,4 @@
+pub mod Bounds
 pub mod Entries
 pub mod Parts
 pub mod Signed

@@ -1,15 +1,15 @@
--- What a node of each kind of expression gives, once its own cost is paid, from what its parts give. Assumes nothing.
+-- What a constant, a variable and a pair give, once their own cost is paid, from what their parts give. Assumes nothing.
 use mathlib.Core.Path.{_≡_, refl, ap, _∙_, subst}
 use mathlib.Core.List.{List}
 use mathlib.Core.Bool.{true}
-use Prim.Native.Nat.{ℕ, _*_, _≤_}
+use Prim.Native.Nat.{ℕ, _≤_}
 use native.Mathlib.Nat.{le-refl}
 use native.Mathlib.Decide.{ℕ-discrete}
 use native.Mathlib.Omega.{arith}
 use lib.Dec.{leb}
 use lib.IntN.{ℤ}
 use lib.ListN.{length, length-replicate}
-use borrow.Author.Tests.{leb-true, ne-eqb}
+use borrow.Author.Tests.{leb-true}
 use Rattle.places.specs.Sets.{union}
 use Rattle.places.proofs.Sets.{length-union, union-assoc, empty-union}
 use Rattle.book.specs.Records.{NodeRecord}
@@ -17,10 +17,10 @@ use Rattle.book.specs.Layout.{decode}
 use Rattle.book.specs.Kinds.{between}
 use Rattle.book.specs.Refusals.{node-at}
 use Rattle.book.proofs.Chains.{both}
-use Rattle.monitor.specs.Labelled.{Label, bottom, Lab, lit, lift, lift2, via}
-use Rattle.monitor.specs.Run.{Cell, State, M, next, _>>=_, look}
+use Rattle.monitor.specs.Labelled.{Label, bottom, Lab, lit, lift2}
+use Rattle.monitor.specs.Run.{Cell, State, M, _>>=_}
 use Rattle.monitor.specs.Syntax.{exp-of}
-use Rattle.monitor.specs.Rules.{from-to, box-of, in-box, gather, seen, aggregate, ranged, expr, eval}
+use Rattle.monitor.specs.Rules.{ranged, expr, eval}
 use Rattle.monitor.specs.Call.{script}
 use Rattle.machine.specs.Ready.{script-of}
 use Rattle.machine.specs.Promises.{Gives, Evaluates, Expresses, given}
@@ -28,12 +28,9 @@ use Rattle.machine.specs.declared.Value.{Value}
 use Rattle.machine.specs.declared.Value.the-variants.{Known, Stopped}
 use Rattle.machine.specs.declared.Valued.{Valued}
 use Rattle.machine.proofs.Nodes.{script-node}
-use Rattle.queries.specs.declared.Found.{Found}
-use Rattle.queries.specs.Found.{box, found-in}
 use Rattle.expressions.specs.Values.{held-to-32, combine}
 use Rattle.expressions.specs.Joins.{Joins}
 use Rattle.expressions.specs.declared.Evaluated.{Evaluated}
-use Rattle.machine.proofs.Runs.{after-none}
 use Rattle.expressions.proofs.Steps.{valued, evaluated, gives-as, stops-at, goes-on, ranged-gives}
 
 -- the rest of a pair after its parts, and after its first part
@@ -58,46 +55,11 @@ pair-is ev n x e = go (ℕ-discrete (x .kind) 3) (ℕ-discrete (x .kind) 4) (ℕ
         let q : x .kind ≡ 6 = omega arith in
         rw q
 
--- the rest of a query after its four bounds
-abbrev aggregating : NodeRecord → ℕ → Lab ℤ → Lab ℤ → Lab ℤ → Lab ℤ → M (Lab ℤ)
-aggregating x n t u v w = look (seen (x .p) (box-of t u v w)) >>= λ cells. ranged n (lift (aggregate (x .kind)) cells)
-
--- and after three, two and one
-module _ (ev : ℕ → M (Lab ℤ)) (x : NodeRecord) (n : ℕ) where
-  abbrev fourth-bound : Lab ℤ → Lab ℤ → Lab ℤ → M (Lab ℤ)
-  fourth-bound t u v = ev (x .d) >>= aggregating x n t u v
-
-  abbrev third-bound : Lab ℤ → Lab ℤ → M (Lab ℤ)
-  third-bound t u = ev (x .c) >>= fourth-bound t u
-
-  abbrev second-bound : Lab ℤ → M (Lab ℤ)
-  second-bound t = ev (x .b) >>= third-bound t
-
-query-is : (ev : ℕ → M (Lab ℤ)) (n : ℕ) (x : NodeRecord) → between 8 11 (x .kind) ≡ true → expr ev n (exp-of x) ≡ (ev (x .a) >>= second-bound ev x n)
-unfolding exp-of expr
-query-is ev n x e =
-    let low : 8 ≤ x .kind = leb-true 8 (x .kind) (both (leb 8 (x .kind)) _ e .0) in
-    rw (ne-eqb (x .kind) 2 (omega arith), ne-eqb (x .kind) 3 (omega arith), ne-eqb (x .kind) 4 (omega arith), ne-eqb (x .kind) 5 (omega arith), ne-eqb (x .kind) 6 (omega arith), e)
-
--- the cells in the box, with the labels of the bounds and of all of them
-aggregating-gives : (cells : ℕ → Lab Cell) (vars : ℕ → Lab ℤ) (x : NodeRecord) (n left : ℕ) (t u v w : Lab ℤ) {found : Found}
-    → found ≡ found-in (x .kind) cells (box (t .val) (u .val) (v .val) (w .val)) (x .p)
-    → Gives (λ fuel. aggregating x n t u v w) cells vars left
-    (valued (held-to-32 (found .value) n) left (union (union (union (t .lab) (u .lab)) (union (v .lab) (w .lab))) (found .label)))
-unfolding next seen via box-of from-to lift lift2 found-in
-aggregating-gives cells vars x n left t u v w e =
-    let picked : Lab ℤ = lift (aggregate (x .kind)) (via (box-of t u v w) (λ b. gather cells (in-box b) (64 * x .p) 64)) in
-    let g = ranged-gives cells vars n left picked in
-    rw e (record {
-      is = λ fuel h rights room. after-none (ranged n picked _) ∙ g .is fuel h rights room;
-      within = g .within;
-    })
-
-abbrev labelled : ℤ → Label → Lab ℤ
+abbrev pub labelled : ℤ → Label → Lab ℤ
 labelled z label = record { val = z; lab = label }
 
 -- the lent label keeps its eight words
-joined-eight : {m : ℕ → M (Lab ℤ)} {cells : ℕ → Lab Cell} {vars : ℕ → Lab ℤ} {left : ℕ} {before : Label} {r : Evaluated} {after : Label} {z : ℤ}
+pub joined-eight : {m : ℕ → M (Lab ℤ)} {cells : ℕ → Lab Cell} {vars : ℕ → Lab ℤ} {left : ℕ} {before : Label} {r : Evaluated} {after : Label} {z : ℤ}
     → Joins m cells vars left before r after → length before ≡ 8 → r .answer ≡ Known z → length after ≡ 8
 joined-eight j l q = ap length (j .joined l q) ∙ length-union _ _ l (j .eight)
 
@@ -139,9 +101,6 @@ module _ (file : List ℕ) (n : ℕ) where
   as-pair : between 3 6 (x .kind) ≡ true → (fuel : ℕ) → Expresses file n fuel ≡ (ev fuel (x .a) >>= second-part (ev fuel) x n)
   as-pair e fuel = rw (script-node file n) (pair-is (ev fuel) n x e)
 
-  as-query : between 8 11 (x .kind) ≡ true → (fuel : ℕ) → Expresses file n fuel ≡ (ev fuel (x .a) >>= second-bound (ev fuel) x n)
-  as-query e fuel = rw (script-node file n) (query-is (ev fuel) n x e)
-
   module _ (cells : ℕ → Lab Cell) (vars : ℕ → Lab ℤ) (left : ℕ) where
     -- 1 constant k
     pub constant-gives : x .kind ≡ 1 → Gives (Expresses file n) cells vars left (valued (Known (x .k)) left bottom)
@@ -179,54 +138,3 @@ module _ (file : List ℕ) (n : ℕ) where
           joined = λ l _.
               g .joined (joined-eight f l qy) q ∙ rw (f .joined l qy) (union-assoc l₀ (f .label) (g .label));
         }
-
-    -- 8 to 11: the four bounds in turn
-    module _ (e : between 8 11 (x .kind) ≡ true) {l₀ l₁ : Label} {a : ℕ} (a-is : a ≡ x .a) {first : Evaluated} (f : Joins (Evaluates file a) cells vars left l₀ first l₁) where
-      pub query-first-stops : {number at : ℕ} → first .answer ≡ Stopped number at → Joins (Expresses file n) cells vars left l₀ first l₁
-      query-first-stops q = stop-joins (f .eight) (gives-as (as-query e) (stops-at (λ fuel. second-bound (ev fuel) x n) (part a-is (f .gives)) q)) q
-
-      module _ {y₁ : ℤ} (q₁ : first .answer ≡ Known y₁) {l₂ : Label} {b : ℕ} (b-is : b ≡ x .b) {second : Evaluated} (g : Joins (Evaluates file b) cells vars (first .left) l₁ second l₂) where
-        abbrev one : Lab ℤ
-        one = labelled y₁ (f .label)
-
-        after-one : {r : Valued} → Gives (λ fuel. second-bound (ev fuel) x n one) cells vars (first .left) r → Gives (Expresses file n) cells vars left r
-        after-one rest = gives-as (as-query e) (goes-on (λ fuel. second-bound (ev fuel) x n) y₁ (part a-is (f .gives)) q₁ rest)
-
-        pub query-second-stops : {number at : ℕ} → second .answer ≡ Stopped number at → Joins (Expresses file n) cells vars left l₀ second l₂
-        query-second-stops q = stop-joins (g .eight) (after-one (stops-at (λ fuel. third-bound (ev fuel) x n one) (part b-is (g .gives)) q)) q
-
-        module _ {y₂ : ℤ} (q₂ : second .answer ≡ Known y₂) {l₃ : Label} {c : ℕ} (c-is : c ≡ x .c) {third : Evaluated} (h : Joins (Evaluates file c) cells vars (second .left) l₂ third l₃) where
-          abbrev two : Lab ℤ
-          two = labelled y₂ (g .label)
-
-          after-two : {r : Valued} → Gives (λ fuel. third-bound (ev fuel) x n one two) cells vars (second .left) r → Gives (Expresses file n) cells vars left r
-          after-two rest = after-one (goes-on (λ fuel. third-bound (ev fuel) x n one) y₂ (part b-is (g .gives)) q₂ rest)
-
-          pub query-third-stops : {number at : ℕ} → third .answer ≡ Stopped number at → Joins (Expresses file n) cells vars left l₀ third l₃
-          query-third-stops q = stop-joins (h .eight) (after-two (stops-at (λ fuel. fourth-bound (ev fuel) x n one two) (part c-is (h .gives)) q)) q
-
-          module _ {y₃ : ℤ} (q₃ : third .answer ≡ Known y₃) {l₄ : Label} {d : ℕ} (d-is : d ≡ x .d) {fourth : Evaluated} (k : Joins (Evaluates file d) cells vars (third .left) l₃ fourth l₄) where
-            abbrev three : Lab ℤ
-            three = labelled y₃ (h .label)
-
-            after-three : {r : Valued} → Gives (λ fuel. fourth-bound (ev fuel) x n one two three) cells vars (third .left) r → Gives (Expresses file n) cells vars left r
-            after-three rest = after-two (goes-on (λ fuel. fourth-bound (ev fuel) x n one two) y₃ (part c-is (h .gives)) q₃ rest)
-
-            pub query-fourth-stops : {number at : ℕ} → fourth .answer ≡ Stopped number at → Joins (Expresses file n) cells vars left l₀ fourth l₄
-            query-fourth-stops q = stop-joins (k .eight) (after-three (stops-at (λ fuel. aggregating x n one two three) (part d-is (k .gives)) q)) q
-
-            pub query-aggregates : {y₄ : ℤ} → fourth .answer ≡ Known y₄ → {found : Found} → found ≡ found-in (x .kind) cells (box y₁ y₂ y₃ y₄) (x .p)
-                → length (found .label) ≡ 8
-                → Joins (Expresses file n) cells vars left l₀ (evaluated (held-to-32 (found .value) n) (fourth .left)) (union l₄ (found .label))
-            query-aggregates {y₄} q₄ {found} is e₅ =
-                let four : Lab ℤ = labelled y₄ (k .label) in
-                record {
-                  label = union (union (union (f .label) (g .label)) (union (h .label) (k .label))) (found .label);
-                  eight = length-union _ _ (length-union _ _ (length-union _ _ (f .eight) (g .eight)) (length-union _ _ (h .eight) (k .eight))) e₅;
-                  gives = after-three (goes-on (λ fuel. aggregating x n one two three) y₄ (part d-is (k .gives)) q₄ (aggregating-gives cells vars x n (fourth .left) one two three four is));
-                  joined = λ l _.
-                      let e₁ = joined-eight f l q₁ in
-                      let e₂ = joined-eight g e₁ q₂ in
-                      let e₃ = joined-eight h e₂ q₃ in
-                      rw (k .joined e₃ q₄, h .joined e₂ q₃, g .joined e₁ q₂, f .joined l q₁) (simp union-assoc);
-                }

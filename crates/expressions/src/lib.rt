@@ -211,7 +211,7 @@ fn join(
     }
 }
 
-// The same for a part of a pair: most are leaves, and are evaluated without a call of `join`, which has a large frame.
+// The same for a part of another: most are leaves, and are evaluated without a call of `join`, which has a large frame.
 fn part(
     file: &[u8],
     nodes: usize,
@@ -229,25 +229,25 @@ fn part(
     ensures { λ r. ⌜ Joins (Evaluates (now (file .entry)) n) (cells-of (now (amounts .entry)) (now (presence .entry)) (now (labels .entry)))
         (vars-of (now (vars .entry)) (now (tags .entry))) left (now (label .entry)) r (now (label .exit)) ⌝ }
 {
-    if file[nodes + 16 * n] < 3 {
-        return leaf(file, nodes, costs, n, left, vars, tags, label);
+    if 2 < file[nodes + 16 * n] {
+        return join(
+            file,
+            nodes,
+            costs,
+            n,
+            left,
+            vars,
+            tags,
+            amounts,
+            presence,
+            labels,
+            label,
+        );
     }
-    join(
-        file,
-        nodes,
-        costs,
-        n,
-        left,
-        vars,
-        tags,
-        amounts,
-        presence,
-        labels,
-        label,
-    )
+    leaf(file, nodes, costs, n, left, vars, tags, label)
 }
 
-// 8 to 11: four bounds, and the cells of a table in their box.
+// 8 to 11: four bounds, and the cells of a table in their box. The loop calls `part` from one place: from four, it would not be in line.
 fn query(
     file: &[u8],
     nodes: usize,
@@ -266,81 +266,38 @@ fn query(
         (vars-of (now (vars .entry)) (now (tags .entry))) left (now (label .entry)) r (now (label .exit)) ⌝ }
 {
     let at = nodes + 16 * n;
-    let w = join(
-        file,
-        nodes,
-        costs,
-        numbers::u16_at(file, at + 2),
-        left,
-        vars,
-        tags,
-        amounts,
-        presence,
-        labels,
-        label,
-    );
-    let first = w.answer;
-    let Value::Known(a) = first else {
-        return w;
-    };
-    let x = join(
-        file,
-        nodes,
-        costs,
-        numbers::u16_at(file, at + 4),
-        w.left,
-        vars,
-        tags,
-        amounts,
-        presence,
-        labels,
-        label,
-    );
-    let second = x.answer;
-    let Value::Known(b) = second else {
-        return x;
-    };
-    let y = join(
-        file,
-        nodes,
-        costs,
-        numbers::u16_at(file, at + 6),
-        x.left,
-        vars,
-        tags,
-        amounts,
-        presence,
-        labels,
-        label,
-    );
-    let third = y.answer;
-    let Value::Known(c) = third else {
-        return y;
-    };
-    let z = join(
-        file,
-        nodes,
-        costs,
-        numbers::u16_at(file, at + 8),
-        y.left,
-        vars,
-        tags,
-        amounts,
-        presence,
-        labels,
-        label,
-    );
-    let fourth = z.answer;
-    let Value::Known(d) = fourth else {
-        return z;
-    };
+    let mut bounds = [0i32; 4];
+    let mut rest = left;
+    let mut i: usize = 0;
+    while i < 4 {
+        let x = part(
+            file,
+            nodes,
+            costs,
+            numbers::u16_at(file, at + 2 + 2 * i),
+            rest,
+            vars,
+            tags,
+            amounts,
+            presence,
+            labels,
+            label,
+        );
+        let answer = x.answer;
+        let Value::Known(bound) = answer else {
+            return x;
+        };
+        bounds[i] = bound;
+        rest = x.left;
+        i += 1;
+    }
     let found = queries::query(
         file[at],
         numbers::byte_at(file, at + 1),
-        a,
-        b,
-        c,
-        d,
+        bounds[0],
+        bounds[1],
+        bounds[2],
+        bounds[3],
         amounts,
         presence,
         labels,
@@ -351,6 +308,6 @@ fn query(
     *label = next;
     Evaluated {
         answer: ranged(found.value, n),
-        left: z.left,
+        left: rest,
     }
 }

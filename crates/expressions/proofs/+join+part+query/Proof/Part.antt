@@ -17,7 +17,7 @@ use Rattle.expressions.proofs.+join+part+query.Lts-part as part-lts
 use Rattle.expressions.proofs.+join+part+query.Proof.Common.{part-at, join-below}
 
 abbrev pub part-cs : ℕ → part-lts.Claims
-part-cs t = (leaf-reads.Asked, leaf-reads.Learnt, join-below t, join.Post)
+part-cs t = (join-below t, join.Post, leaf-reads.Asked, leaf-reads.Learnt)
 
 module _ (t : ℕ) where
   -- ---- what the call is given
@@ -54,18 +54,18 @@ module _ (t : ℕ) where
       let r = record-of (c .before .before) in
       omega (arith, r .end)
 
-  pub leaf-requires : part-lts.Need-leaf-requires (part-cs t) (part-at t) part.Post
-  leaf-requires c κs =
-      let o = c .before .before .before .before in
-      (ready o, node o, omega (arith, c .before .if1 .taken, record-of o .kind))
-
-  pub returns : part-lts.Need-returns (part-cs t) (part-at t) part.Post
-  returns c = c .leaf .ensures (cells (c .before .before .before .before .before))
-
   pub join-requires : part-lts.Need-join-requires (part-cs t) (part-at t) part.Post
   join-requires c κs =
       let o = c .before .before .before .before in
       (omega (arith, o .pre .0), o .pre .1)
 
+  pub returns : part-lts.Need-returns (part-cs t) (part-at t) part.Post
+  returns c = c .join .ensures
+
+  pub leaf-requires : part-lts.Need-leaf-requires (part-cs t) (part-at t) part.Post
+  leaf-requires c κs =
+      let o = c .before .before .before .before in
+      (ready o, node o, omega (arith, c .before .if1 .left, record-of o .kind))
+
   pub returns-2 : part-lts.Need-returns-2 (part-cs t) (part-at t) part.Post
-  returns-2 c = c .join .ensures
+  returns-2 c = c .leaf .ensures (cells (c .before .before .before .before .before))

@@ -1,10 +1,10 @@
 -- The needs of `expressions::query`.
 use mathlib.Core.Path.{_≡_, sym, ap, _∙_}
 use mathlib.Core.Bool.{true}
-use Prim.Native.Nat.{ℕ, _+_, _*_}
+use Prim.Native.Nat.{ℕ, _+_, _-_, _*_}
 use native.Mathlib.Omega.{arith}
-use lib.IntN.{ℤ}
-use lib.ListN.{length-map}
+use lib.IntN.{ℤ, pos}
+use lib.ListN.{getD, length-map}
 use mir.Syntax.{w32, w64}
 use borrow.Author.Needs.{needs}
 use Rattle.book.specs.Layout.{decode}
@@ -18,9 +18,9 @@ use Rattle.machine.specs.Store.{vars-of}
 use Rattle.machine.proofs.Nodes.{Read}
 use Rattle.expressions.specs.Values.{held-to-32}
 use Rattle.expressions.proofs.Signed.{kept}
-use Rattle.expressions.proofs.Parts.{query-first-stops, query-second-stops, query-third-stops, query-fourth-stops, query-aggregates}
-use Rattle.expressions.proofs.Entries.{read, query-table, query-first, query-second, query-third, query-fourth}
-use Rattle.expressions.proofs.join.Reads as join
+use Rattle.expressions.proofs.Bounds.{Bounding, bounding-starts, bounding-stops, bounding-turns, bounding-ends}
+use Rattle.expressions.proofs.Entries.{read, query-table, query-bound-is, query-bound}
+use Rattle.expressions.proofs.part.Reads as part
 use Rattle.expressions.proofs.query.Reads as query
 use Rattle.expressions.proofs.+join+part+query.Lts-query as query-lts
 use Rattle.numbers.proofs.byte_at.Reads as byte-at-reads
@@ -28,16 +28,24 @@ use Rattle.numbers.proofs.u16_at.Reads as u16-at-reads
 use Rattle.expressions.proofs.ranged.Reads as ranged-reads
 use Rattle.places.proofs.union.Reads as union-reads
 use Rattle.queries.proofs.query.Reads as query-reads
-use Rattle.expressions.proofs.+join+part+query.Proof.Common.{query-at, join-below}
+use Rattle.expressions.proofs.+join+part+query.Proof.Common.{query-at, part-below}
 
 abbrev pub query-cs : ℕ → query-lts.Claims
-query-cs t = (u16-at-reads.Asked, u16-at-reads.Learnt, join-below t, join.Post, byte-at-reads.Asked, byte-at-reads.Learnt, query-reads.Asked, query-reads.Learnt, union-reads.Asked, union-reads.Learnt, ranged-reads.Asked, ranged-reads.Learnt)
+query-cs t = (u16-at-reads.Asked, u16-at-reads.Learnt, part-below t, part.Post, byte-at-reads.Asked, byte-at-reads.Learnt, query-reads.Asked, query-reads.Learnt, union-reads.Asked, union-reads.Learnt, ranged-reads.Asked, ranged-reads.Learnt)
+
+-- the loop over the bounds: what holds at bound i, and how many are to come
+abbrev pub Inv-loop : query-lts.InvT-loop
+Inv-loop file nodes costs n left vars tags amounts presence labels label₀ at bounds₀ rest₀ i₀ label bounds rest i =
+    Bounding file n (cells-of amounts presence labels) (vars-of vars tags) left label₀ i bounds rest label
+
+abbrev pub μ-loop : query-lts.MeasureT-loop
+μ-loop file nodes costs n left vars tags amounts presence labels label₀ at bounds₀ rest₀ i₀ label bounds rest i = 4 - i
 
 module _ (t : ℕ) where
   -- ---- what the call is given
 
   abbrev Start : Type 0
-  Start = query-lts.Start (query-cs t) (query-at t) query.Post
+  Start = query-lts.Start (query-cs t) (query-at t) query.Post Inv-loop μ-loop
 
   ready : (o : Start) → Ready (o .args .file .now) (o .args .nodes) (o .args .costs .now)
   ready o = o .pre .1 .0
@@ -59,207 +67,147 @@ module _ (t : ℕ) where
 
   -- ---- its needs
 
-  pub mul-at : query-lts.Need-mul-at (query-cs t) (query-at t) query.Post
+  pub mul-at : query-lts.Need-mul-at (query-cs t) (query-at t) query.Post Inv-loop μ-loop
   mul-at c =
       let r = record-of (c .before) in
       record { fits = omega (arith, r .end, r .short) }
 
-  pub add-at : query-lts.Need-add-at (query-cs t) (query-at t) query.Post
+  pub add-at : query-lts.Need-add-at (query-cs t) (query-at t) query.Post Inv-loop μ-loop
   add-at c =
       let r = record-of (c .before) in
       record { fits = omega (arith, r .end, r .short) }
 
-  pub add-u16-at : query-lts.Need-add-u16-at (query-cs t) (query-at t) query.Post
+  pub loop-holds : query-lts.Need-loop-holds (query-cs t) (query-at t) query.Post Inv-loop μ-loop
+  loop-holds c =
+      let o = c .before in
+      bounding-starts (o .args .file .now) (o .args .n) (cells o) (vars o) (o .args .left) (kind-is o)
+
+  pub add-u16-at : query-lts.Need-add-u16-at (query-cs t) (query-at t) query.Post Inv-loop μ-loop
   add-u16-at c =
-      let r = record-of (c .before) in
+      let r = record-of (c .before .before .before) in
       record { fits = omega (arith, r .end, r .short) }
 
-  pub u16-at-requires : query-lts.Need-u16-at-requires (query-cs t) (query-at t) query.Post
+  pub mul-u16-at : query-lts.Need-mul-u16-at (query-cs t) (query-at t) query.Post Inv-loop μ-loop
+  mul-u16-at c =
+      let r = record-of (c .before .before .before) in
+      record { fits = omega (arith, r .end, r .short) }
+
+  pub add-u16-at-2 : query-lts.Need-add-u16-at-2 (query-cs t) (query-at t) query.Post Inv-loop μ-loop
+  add-u16-at-2 c =
+      let r = record-of (c .before .before .before) in
+      record { fits = omega (arith, r .end, r .short) }
+
+  pub u16-at-requires : query-lts.Need-u16-at-requires (query-cs t) (query-at t) query.Post Inv-loop μ-loop
   u16-at-requires c κs =
-      let r = record-of (c .before) in
+      let r = record-of (c .before .before .before) in
       omega (arith, r .end)
 
-  pub join-requires : query-lts.Need-join-requires (query-cs t) (query-at t) query.Post
-  join-requires c κs =
-      let o = c .before .before .before in
-      let child = query-first (ready o) (node o) (kind-is o) (c .before .u16-at .ensures .0) in
+  pub part-requires : query-lts.Need-part-requires (query-cs t) (query-at t) query.Post Inv-loop μ-loop
+  part-requires c κs =
+      let u16 = c .before in
+      let o = u16 .before .before .before .before in
+      let child = query-bound (ready o) (node o) (kind-is o) (u16 .before .loop-test .taken) (u16 .u16-at .ensures .0) in
       (omega (arith, o .pre .0, child .lower), (ready o, child .node))
 
-  pub enum-known-first : query-lts.Need-enum-known-first (query-cs t) (query-at t) query.Post
-  enum-known-first c = search needs
+  pub enum-known-answer : query-lts.Need-enum-known-answer (query-cs t) (query-at t) query.Post Inv-loop μ-loop
+  enum-known-answer c = search needs
 
-  pub enum-told : query-lts.Need-enum-told (query-cs t) (query-at t) query.Post
+  pub enum-told : query-lts.Need-enum-told (query-cs t) (query-at t) query.Post Inv-loop μ-loop
   enum-told c = search needs
 
-  pub returns : query-lts.Need-returns (query-cs t) (query-at t) query.Post
+  pub returns : query-lts.Need-returns (query-cs t) (query-at t) query.Post Inv-loop μ-loop
   returns c =
-      let w = c .before .before in
-      let o = w .before .before .before .before in
-      let r = record-of o in
-      query-first-stops (o .args .file .now) (o .args .n) (cells o) (vars o) (o .args .left) (kind-is o)
-      (w .before .before .u16-at .ensures .0 ∙ r .a) (w .join .ensures) (c .enum-told .given .1)
+      let called = c .before .before in
+      let u16 = called .before .before in
+      let turn = u16 .before in
+      let o = turn .before .before .before in
+      let is = query-bound-is (ready o) (node o) (kind-is o) (turn .loop-test .taken) (u16 .u16-at .ensures .0) in
+      bounding-stops (o .args .file .now) (o .args .n) (cells o) (vars o) (o .args .left) (turn .before .loop .inv) (turn .loop-test .taken) is
+      (called .part .ensures) (c .enum-told .given .1)
 
-  pub add-u16-at-2 : query-lts.Need-add-u16-at-2 (query-cs t) (query-at t) query.Post
-  add-u16-at-2 c =
-      let r = record-of (c .before .before .before .before .before .before .before) in
-      record { fits = omega (arith, r .end, r .short) }
+  pub mul-bounds : query-lts.Need-mul-bounds (query-cs t) (query-at t) query.Post Inv-loop μ-loop
+  mul-bounds c = search needs
 
-  pub u16-at-requires-2 : query-lts.Need-u16-at-requires-2 (query-cs t) (query-at t) query.Post
-  u16-at-requires-2 c κs =
-      let r = record-of (c .before .before .before .before .before .before .before) in
+  pub array-set-from-bounds : query-lts.Need-array-set-from-bounds (query-cs t) (query-at t) query.Post Inv-loop μ-loop
+  array-set-from-bounds c = search needs
+
+  pub add-i : query-lts.Need-add-i (query-cs t) (query-at t) query.Post Inv-loop μ-loop
+  add-i c = search needs
+
+  pub loop-less : query-lts.Need-loop-less (query-cs t) (query-at t) query.Post Inv-loop μ-loop
+  loop-less c = search needs
+
+  pub loop-again : query-lts.Need-loop-again (query-cs t) (query-at t) query.Post Inv-loop μ-loop
+  loop-again c =
+      let called = c .before .before .before in
+      let u16 = called .before .before in
+      let turn = u16 .before in
+      let o = turn .before .before .before in
+      let is = query-bound-is (ready o) (node o) (kind-is o) (turn .loop-test .taken) (u16 .u16-at .ensures .0) in
+      rw (kept w32 (c .before .answer .given .0 .0) (c .known-told .given .0 .1))
+      (bounding-turns (o .args .file .now) (o .args .n) (cells o) (vars o) (o .args .left) (turn .before .loop .inv) (turn .loop-test .taken) is
+      (called .part .ensures) (c .before .answer .given .1))
+
+  pub shared-slice-read-query : query-lts.Need-shared-slice-read-query (query-cs t) (query-at t) query.Post Inv-loop μ-loop
+  shared-slice-read-query c =
+      let r = record-of (c .before .before .before .before) in
       omega (arith, r .end)
 
-  pub join-requires-2 : query-lts.Need-join-requires-2 (query-cs t) (query-at t) query.Post
-  join-requires-2 c κs =
+  pub add-byte-at : query-lts.Need-add-byte-at (query-cs t) (query-at t) query.Post Inv-loop μ-loop
+  add-byte-at c =
+      let r = record-of (c .before .before .before .before) in
+      record { fits = omega (arith, r .end, r .short) }
+
+  pub byte-at-requires : query-lts.Need-byte-at-requires (query-cs t) (query-at t) query.Post Inv-loop μ-loop
+  byte-at-requires c κs =
+      let r = record-of (c .before .before .before .before) in
+      omega (arith, r .end)
+
+  pub array-copy-out-query : query-lts.Need-array-copy-out-query (query-cs t) (query-at t) query.Post Inv-loop μ-loop
+  array-copy-out-query c = search needs
+
+  pub array-copy-out-query-2 : query-lts.Need-array-copy-out-query-2 (query-cs t) (query-at t) query.Post Inv-loop μ-loop
+  array-copy-out-query-2 c = search needs
+
+  pub array-copy-out-query-3 : query-lts.Need-array-copy-out-query-3 (query-cs t) (query-at t) query.Post Inv-loop μ-loop
+  array-copy-out-query-3 c = search needs
+
+  pub array-copy-out-query-4 : query-lts.Need-array-copy-out-query-4 (query-cs t) (query-at t) query.Post Inv-loop μ-loop
+  array-copy-out-query-4 c = search needs
+
+  pub query-requires : query-lts.Need-query-requires (query-cs t) (query-at t) query.Post Inv-loop μ-loop
+  query-requires c κs =
       let o = c .before .before .before .before .before .before .before .before .before in
-      let child = query-second (ready o) (node o) (kind-is o) (c .before .u16-at2 .ensures .0) in
-      (omega (arith, o .pre .0, child .lower), (ready o, child .node))
+      query-table (ready o) (node o) (kind-is o) (c .before .before .before .before .byte-at .ensures .0)
 
-  pub enum-known-second : query-lts.Need-enum-known-second (query-cs t) (query-at t) query.Post
-  enum-known-second c = search needs
-
-  pub enum-told-2 : query-lts.Need-enum-told-2 (query-cs t) (query-at t) query.Post
-  enum-told-2 c = search needs
-
-  pub returns-2 : query-lts.Need-returns-2 (query-cs t) (query-at t) query.Post
-  returns-2 c =
-      let x = c .before .before in
-      let first-known = x .before .before .before .before in
-      let w = first-known .before .before in
-      let o = w .before .before .before .before in
-      let r = record-of o in
-      query-second-stops (o .args .file .now) (o .args .n) (cells o) (vars o) (o .args .left) (kind-is o)
-      (w .before .before .u16-at .ensures .0 ∙ r .a) (w .join .ensures) (first-known .first .given .1)
-      (x .before .before .u16-at2 .ensures .0 ∙ r .b) (x .join2 .ensures) (c .enum-told2 .given .1)
-
-  pub add-u16-at-3 : query-lts.Need-add-u16-at-3 (query-cs t) (query-at t) query.Post
-  add-u16-at-3 c =
-      let r = record-of (c .before .before .before .before .before .before .before .before .before .before .before .before .before) in
-      record { fits = omega (arith, r .end, r .short) }
-
-  pub u16-at-requires-3 : query-lts.Need-u16-at-requires-3 (query-cs t) (query-at t) query.Post
-  u16-at-requires-3 c κs =
-      let r = record-of (c .before .before .before .before .before .before .before .before .before .before .before .before .before) in
-      omega (arith, r .end)
-
-  pub join-requires-3 : query-lts.Need-join-requires-3 (query-cs t) (query-at t) query.Post
-  join-requires-3 c κs =
-      let o = c .before .before .before .before .before .before .before .before .before .before .before .before .before .before .before in
-      let child = query-third (ready o) (node o) (kind-is o) (c .before .u16-at3 .ensures .0) in
-      (omega (arith, o .pre .0, child .lower), (ready o, child .node))
-
-  pub enum-known-third : query-lts.Need-enum-known-third (query-cs t) (query-at t) query.Post
-  enum-known-third c = search needs
-
-  pub enum-told-3 : query-lts.Need-enum-told-3 (query-cs t) (query-at t) query.Post
-  enum-told-3 c = search needs
-
-  pub returns-3 : query-lts.Need-returns-3 (query-cs t) (query-at t) query.Post
-  returns-3 c =
-      let y = c .before .before in
-      let second-known = y .before .before .before .before in
-      let x = second-known .before .before in
-      let first-known = x .before .before .before .before in
-      let w = first-known .before .before in
-      let o = w .before .before .before .before in
-      let r = record-of o in
-      query-third-stops (o .args .file .now) (o .args .n) (cells o) (vars o) (o .args .left) (kind-is o)
-      (w .before .before .u16-at .ensures .0 ∙ r .a) (w .join .ensures) (first-known .first .given .1)
-      (x .before .before .u16-at2 .ensures .0 ∙ r .b) (x .join2 .ensures) (second-known .second .given .1)
-      (y .before .before .u16-at3 .ensures .0 ∙ r .c) (y .join3 .ensures) (c .enum-told3 .given .1)
-
-  pub add-u16-at-4 : query-lts.Need-add-u16-at-4 (query-cs t) (query-at t) query.Post
-  add-u16-at-4 c =
-      let r = record-of (c .before .before .before .before .before .before .before .before .before .before .before .before .before .before .before .before .before .before .before) in
-      record { fits = omega (arith, r .end, r .short) }
-
-  pub u16-at-requires-4 : query-lts.Need-u16-at-requires-4 (query-cs t) (query-at t) query.Post
-  u16-at-requires-4 c κs =
-      let r = record-of (c .before .before .before .before .before .before .before .before .before .before .before .before .before .before .before .before .before .before .before) in
-      omega (arith, r .end)
-
-  pub join-requires-4 : query-lts.Need-join-requires-4 (query-cs t) (query-at t) query.Post
-  join-requires-4 c κs =
-      let o = c .before .before .before .before .before .before .before .before .before .before .before .before .before .before .before .before .before .before .before .before .before in
-      let child = query-fourth (ready o) (node o) (kind-is o) (c .before .u16-at4 .ensures .0) in
-      (omega (arith, o .pre .0, child .lower), (ready o, child .node))
-
-  pub enum-known-fourth : query-lts.Need-enum-known-fourth (query-cs t) (query-at t) query.Post
-  enum-known-fourth c = search needs
-
-  pub enum-told-4 : query-lts.Need-enum-told-4 (query-cs t) (query-at t) query.Post
-  enum-told-4 c = search needs
-
-  pub returns-4 : query-lts.Need-returns-4 (query-cs t) (query-at t) query.Post
-  returns-4 c =
-      let z = c .before .before in
-      let third-known = z .before .before .before .before in
-      let y = third-known .before .before in
-      let second-known = y .before .before .before .before in
-      let x = second-known .before .before in
-      let first-known = x .before .before .before .before in
-      let w = first-known .before .before in
-      let o = w .before .before .before .before in
-      let r = record-of o in
-      query-fourth-stops (o .args .file .now) (o .args .n) (cells o) (vars o) (o .args .left) (kind-is o)
-      (w .before .before .u16-at .ensures .0 ∙ r .a) (w .join .ensures) (first-known .first .given .1)
-      (x .before .before .u16-at2 .ensures .0 ∙ r .b) (x .join2 .ensures) (second-known .second .given .1)
-      (y .before .before .u16-at3 .ensures .0 ∙ r .c) (y .join3 .ensures) (third-known .third .given .1)
-      (z .before .before .u16-at4 .ensures .0 ∙ r .d) (z .join4 .ensures) (c .enum-told4 .given .1)
-
-  pub union-requires : query-lts.Need-union-requires (query-cs t) (query-at t) query.Post
+  pub union-requires : query-lts.Need-union-requires (query-cs t) (query-at t) query.Post Inv-loop μ-loop
   union-requires c κs = search needs
 
-  pub shared-slice-read-query : query-lts.Need-shared-slice-read-query (query-cs t) (query-at t) query.Post
-  shared-slice-read-query c =
-      let r = record-of (c .before .before .before .before .before .before .before .before .before .before .before .before .before .before .before .before .before .before .before .before .before .before .before .before .before .before) in
-      omega (arith, r .end)
-
-  pub add-byte-at : query-lts.Need-add-byte-at (query-cs t) (query-at t) query.Post
-  add-byte-at c =
-      let r = record-of (c .before .before .before .before .before .before .before .before .before .before .before .before .before .before .before .before .before .before .before .before .before .before .before .before .before .before) in
-      record { fits = omega (arith, r .end, r .short) }
-
-  pub byte-at-requires : query-lts.Need-byte-at-requires (query-cs t) (query-at t) query.Post
-  byte-at-requires c κs =
-      let r = record-of (c .before .before .before .before .before .before .before .before .before .before .before .before .before .before .before .before .before .before .before .before .before .before .before .before .before .before) in
-      omega (arith, r .end)
-
-  pub query-requires : query-lts.Need-query-requires (query-cs t) (query-at t) query.Post
-  query-requires c κs =
-      let o = c .before .before .before .before .before .before .before .before .before .before .before .before .before .before .before .before .before .before .before .before .before .before .before .before .before .before .before in
-      query-table (ready o) (node o) (kind-is o) (c .byte-at .ensures .0)
-
-  pub ranged-requires : query-lts.Need-ranged-requires (query-cs t) (query-at t) query.Post
+  pub ranged-requires : query-lts.Need-ranged-requires (query-cs t) (query-at t) query.Post Inv-loop μ-loop
   ranged-requires c κs = search needs
 
-  pub returns-5 : query-lts.Need-returns-5 (query-cs t) (query-at t) query.Post
-  returns-5 c =
+  pub returns-2 : query-lts.Need-returns-2 (query-cs t) (query-at t) query.Post Inv-loop μ-loop
+  returns-2 c =
       let found-at = c .before .before .before .before .before in
-      let fourth-told = found-at .before .before .before in
-      let fourth-known = fourth-told .before in
-      let z = fourth-known .before .before in
-      let third-known = z .before .before .before .before in
-      let y = third-known .before .before in
-      let second-known = y .before .before .before .before in
-      let x = second-known .before .before in
-      let first-known = x .before .before .before .before in
-      let w = first-known .before .before in
-      let o = w .before .before .before .before in
+      let d-read = found-at .before in
+      let c-read = d-read .before in
+      let b-read = c-read .before in
+      let a-read = b-read .before in
+      let p-read = a-read .before in
+      let done = p-read .before .before in
+      let o = done .before .before .before in
       let r = record-of o in
       let found = found-at .query in
+      let bound = getD (done .before .loop .bounds) in
       let found-is = rw (
-        kept w32 (first-known .first .given .0 .0) (x .before .before .before .known-told .given .0 .1),
-        kept w32 (second-known .second .given .0 .0) (y .before .before .before .known-told2 .given .0 .1),
-        kept w32 (third-known .third .given .0 .0) (z .before .before .before .known-told3 .given .0 .1),
-        kept w32 (fourth-known .fourth .given .0 .0) (fourth-told .known-told4 .given .0 .1),
+        kept w32 (bound 0 (pos 0)) (a-read .query-arg .given),
+        kept w32 (bound 1 (pos 0)) (b-read .query-arg2 .given),
+        kept w32 (bound 2 (pos 0)) (c-read .query-arg3 .given),
+        kept w32 (bound 3 (pos 0)) (d-read .query-arg4 .given),
         r .kind,
-        found-at .before .byte-at .ensures .0 ∙ r .p,
+        p-read .byte-at .ensures .0 ∙ r .p,
       ) at (found .ensures) in
       let value-is : c .ranged .result ≡ held-to-32 (found .result .value) (o .args .n) = c .ranged .ensures ∙ ap (λ (v : ℤ). held-to-32 v (o .args .n)) (kept w64 (found .result .value) (c .before .struct-told .given .0 .1)) in
       rw (value-is, c .before .before .union .ensures)
-      (query-aggregates (o .args .file .now) (o .args .n) (cells o) (vars o) (o .args .left) (kind-is o)
-      (w .before .before .u16-at .ensures .0 ∙ r .a) (w .join .ensures) (first-known .first .given .1)
-      (x .before .before .u16-at2 .ensures .0 ∙ r .b) (x .join2 .ensures) (second-known .second .given .1)
-      (y .before .before .u16-at3 .ensures .0 ∙ r .c) (y .join3 .ensures) (third-known .third .given .1)
-      (z .before .before .u16-at4 .ensures .0 ∙ r .d) (z .join4 .ensures) (fourth-known .fourth .given .1) found-is (sym (length-map (found .result .label) _) ∙ c .before .struct-told .given .1 .0 .1 .0 .1))
+      (bounding-ends (o .args .file .now) (o .args .n) (cells o) (vars o) (o .args .left) (done .before .loop .inv) (done .loop-test .left) found-is
+      (sym (length-map (found .result .label) _) ∙ c .before .struct-told .given .1 .0 .1 .0 .1))
