@@ -11,7 +11,7 @@ ghost use Rattle.actions.specs.Acting.{Acts};
 
 // Does what a command says that is neither 18 to 20, which enter others, nor 21 or 22, which fire triggers.
 pub fn act(
-    file: &[u8],
+    file: &[u8; 21380],
     nodes: usize,
     costs: &[u32; 27],
     public: &[u64; 8],

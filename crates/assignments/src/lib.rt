@@ -24,7 +24,7 @@ fn store_variable(vars: &mut [i32], tags: &mut [u64], p: usize, amount: i32, lab
 
 // 17: variable p becomes a. Stop 25 where the context is not within the variable's old label.
 pub fn assign(
-    file: &[u8],
+    file: &[u8; 21380],
     nodes: usize,
     costs: &[u32; 27],
     n: usize,
@@ -72,7 +72,7 @@ pub fn assign(
 
 // 26: variable p is raised by region a, under the same test.
 pub fn raise(
-    file: &[u8],
+    file: &[u8; 21380],
     nodes: usize,
     costs: &[u32; 27],
     n: usize,

@@ -131,21 +131,20 @@ accepted s e =
       triggers-ok = rw count-triggers at (blame-accepts 10 _ _ (programs-in .1));
     }
 
--- what acceptance tells of region j
-module _ (s : List ℕ) (v : verdict s ≡ Accepted) where
-  pub placed : Sited s
-  placed = sited s (accepted s v .length-ok) (accepted s v .sections-ok)
+pub placed : (s : List ℕ) → verdict s ≡ Accepted → Sited s
+placed s v = sited s (accepted s v .length-ok) (accepted s v .sections-ok)
 
-  module _ (j : ℕ) (h : j < count s 1) where
-    abbrev region : RegionRecord
-    region = regions-format .read s (section s 1 .start + j * 8)
+-- what the record of region j tells that passed its check
+module _ (s : List ℕ) (j : ℕ) (h : j < count s 1) where
+  abbrev region : RegionRecord
+  region = regions-format .read s (section s 1 .start + j * 8)
 
-    pub region-inside : section s 1 .start + j * 8 + 8 ≤ length s
-    region-inside = omega (arith, regions-inside placed)
+  pub region-inside : section s 1 .start + count s 1 * 8 ≤ length s → section s 1 .start + j * 8 + 8 ≤ length s
+  region-inside all = omega arith
 
-    pub region-table : region .table < 8
-    unfolding bad-region region-fits
-    region-table =
-        let fits : region-fits region ≡ true = rw (region-read s j no-region h) at (not-false (region-fits (getD (decode s .regions) j no-region)) (accepted s v .regions-ok j h)) in
-        let table = both (leb (region .table) 7) _ fits in
-        omega (arith, leb-true (region .table) 7 (table .0))
+  pub region-table : bad-region (decode s .regions) j ≡ false → region .table < 8
+  unfolding bad-region region-fits
+  region-table ok =
+      let fits : region-fits region ≡ true = rw (region-read s j no-region h) at (not-false (region-fits (getD (decode s .regions) j no-region)) ok) in
+      let table = both (leb (region .table) 7) _ fits in
+      omega (arith, leb-true (region .table) 7 (table .0))

@@ -84,7 +84,7 @@ module _ (file : List ℕ) (ctx : Label) (user above n : ℕ) {nodes : ℕ} {cos
   -- the command that is entered
   pub head-node : {h : Head} → Heads node m left' cost h → h .fits ≡ true → Node command file (h .command)
   head-node (unpaid k l) f = absurd (false≢true f)
-  head-node (list k l) f = then-a file (ready .accepted) m (c .node .inside) k .node
+  head-node (list k l) f = then-a file (ready .runnable) m (c .node .inside) k .node
   head-node (single k) f = c .node
 
   pub head-less : {h : Head} → Heads node m left' cost h → h .fits ≡ true → 16 * h .left + 1 < weight file n left
@@ -122,7 +122,7 @@ module _ (file : List ℕ) (ctx : Label) (user above n : ℕ) {nodes : ℕ} {cos
     chain-turns {b = b} (list k l) f g d e eb =
         let b-is : b ≡ node .b = eb ∙ command-read ready (c .node) .b in
         record {
-          node = child-node b-is (then-b file (ready .accepted) m (c .node .inside) k);
+          node = child-node b-is (then-b file (ready .runnable) m (c .node .inside) k);
           ends = λ d'. c .ends (enters file ctx user above m (price k) l (sequence-goes file ctx user above m k refl d e b-is d'));
           same = same-trace d ∙ c .same;
           fits = omega (arith, d .fits, c .same);

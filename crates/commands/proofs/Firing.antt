@@ -9,14 +9,12 @@ use lib.IntN.{ℤ}
 use lib.ListN.{length}
 use Rattle.book.specs.Layout.{count, section}
 use Rattle.book.specs.Kinds.{command}
-use Rattle.book.specs.Refusals.{verdict}
-use Rattle.book.specs.declared.Verdict.the-variants.{Accepted}
 use Rattle.book.proofs.Decoded.{count-triggers}
 use Rattle.monitor.specs.Labelled.{Label, bottom, Lab}
 use Rattle.monitor.specs.Run.{Cell, State, Out, done, M, next, _>>_, each, when, own}
 use Rattle.monitor.specs.Rules.{Key, trigger-vars, numbers, trigger-at, fitting, trigger-run, fire, exec}
 use Rattle.monitor.specs.Call.{script}
-use Rattle.machine.specs.Ready.{script-of, Node}
+use Rattle.machine.specs.Ready.{script-of, Runnable, Node}
 use Rattle.machine.specs.Store.{Store, state, cell}
 use Rattle.machine.specs.Promises.{ran, ended, Does, DoesAside, env, Enters}
 use Rattle.machine.specs.Writes.{key-of, Fires}
@@ -43,7 +41,7 @@ unfolding script
 script-triggers file = count-triggers file
 
 -- a trigger's body is a command, run by one of the eight users
-pub trigger-runs : (file : List ℕ) (number : ℕ) {user body : ℕ} → verdict file ≡ Accepted → number < count file 5
+pub trigger-runs : (file : List ℕ) (number : ℕ) {user body : ℕ} → Runnable file → number < count file 5
     → user ≡ trigger-at (script-of file) number .user → body ≡ trigger-at (script-of file) number .body → Node command file body × (user < 8)
 trigger-runs file number v h eu eb =
     let trigger = trigger-read-at file v number h (section file 5) refl in

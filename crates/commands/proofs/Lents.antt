@@ -20,13 +20,13 @@ use Rattle.machine.proofs.Nodes.{script-node, Read, Child, read-at, cost-read, 
 -- the record of a command that is run
 pub command-read : {file : List ℕ} {nodes : ℕ} {costs : List ℕ} {n : ℕ} → Ready file nodes costs → Node command file n
     → Read file (nodes + 16 * n) (node-at (decode file) n)
-command-read {file} {nodes} {n = n} l h = read-at file (l .accepted) n (h .inside) nodes (l .nodes-start)
+command-read {file} {nodes} {n = n} l h = read-at file (l .runnable) n (h .inside) nodes (l .nodes-start)
 
 -- what entering it costs
 pub cost-known : {file : List ℕ} {nodes : ℕ} {costs : List ℕ} {n : ℕ} (kind : ℕ) → Ready file nodes costs → Node command file n
     → kind ≡ node-at (decode file) n .kind → getD costs kind 0 ≡ cost-at (script-of file) n
 cost-known {file} {costs = costs} {n = n} kind l h e =
-    ap (λ (k : ℕ). getD costs k 0) e ∙ cost-read file (l .accepted) n (h .inside) costs (l .costs-are)
+    ap (λ (k : ℕ). getD costs k 0) e ∙ cost-read file (l .runnable) n (h .inside) costs (l .costs-are)
     ∙ ap (λ (x : NodeRecord). cost-of (x .kind)) (sym (script-node file n))
 
 -- a node that a field names
@@ -42,12 +42,12 @@ pub test-node : {file : List ℕ} {nodes : ℕ} {costs : List ℕ} {n : ℕ} →
 test-node {file} {n = n} l h e = go (ℕ-discrete (node-at (decode file) n .kind) 19)
   where
     go : Dec (node-at (decode file) n .kind ≡ 19) → Node expression file (node-at (decode file) n .a)
-    go (yes q) = if-a file (l .accepted) n (h .inside) q .node
+    go (yes q) = if-a file (l .runnable) n (h .inside) q .node
     go (no d) =
         let sides = both (leb 19 (node-at (decode file) n .kind)) _ e in
         let low = leb-true 19 (node-at (decode file) n .kind) (sides .0) in
         let high = leb-true (node-at (decode file) n .kind) 20 (sides .1) in
-        while-a file (l .accepted) n (h .inside) (omega (arith, low, high, d)) .node
+        while-a file (l .runnable) n (h .inside) (omega (arith, low, high, d)) .node
 
 from : {n k : ℕ} → (k < n → ⊥) → n ≤ k
 from h = omega arith

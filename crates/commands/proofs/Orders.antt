@@ -10,12 +10,11 @@ use Rattle.places.specs.Sets.{union}
 use Rattle.book.specs.Records.{NodeRecord}
 use Rattle.book.specs.Layout.{count, decode}
 use Rattle.book.specs.Kinds as kinds
-use Rattle.book.specs.Refusals.{node-at, is-zero, verdict}
-use Rattle.book.specs.declared.Verdict.the-variants.{Accepted}
+use Rattle.book.specs.Refusals.{node-at, is-zero}
 use Rattle.monitor.specs.Labelled.{Label, Lab}
 use Rattle.monitor.specs.Run.{Cell, Out, M, _>>=_, _>>_}
 use Rattle.monitor.specs.Rules.{within-label, choose, command, exec}
-use Rattle.machine.specs.Ready.{script-of, Node}
+use Rattle.machine.specs.Ready.{script-of, Runnable, Node}
 use Rattle.machine.specs.Store.{Store}
 use Rattle.machine.specs.Promises.{Evaluates, ran, stop-of, Does, env, Enters, Commands}
 use Rattle.machine.specs.declared.Outcome.{Outcome}
@@ -91,7 +90,7 @@ module _ (file : List ℕ) (ctx : Label) (user above n : ℕ) where
         goes : Goes node (d .given .answer) way
         goes = if-goes node kind (d .given .answer) (sym led-is ∙ e)
 
-        pub way-child : (v : verdict file ≡ Accepted) → n < count file 3 → Node kinds.command file way
+        pub way-child : (v : Runnable file) → n < count file 3 → Node kinds.command file way
         way-child v h = subst (λ (j : ℕ). Node kinds.command file j) (sym (goes .way-is)) (go (is-zero (goes .z)))
           where
             go : (y : Bool) → Node kinds.command file (cond y (node .c) (node .b))

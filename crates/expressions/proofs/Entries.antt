@@ -66,13 +66,13 @@ query-kind kind e h = rw (le-leb 1 kind (omega arith), lt-leb kind 6 (omega arit
 -- a node, its record in the file and its cost
 module _ {file : List ℕ} {nodes : ℕ} {costs : List ℕ} {n : ℕ} (ready : Ready file nodes costs) (node : Node expression file n) where
   pub read : Read file (nodes + 16 * n) (node-at (decode file) n)
-  read = read-at file (ready .accepted) n (node .inside) nodes (ready .nodes-start)
+  read = read-at file (ready .runnable) n (node .inside) nodes (ready .nodes-start)
 
   pub kind-inside : byte file (nodes + 16 * n) < 27
-  kind-inside = rw (read .kind) (kind-below file (ready .accepted) n (node .inside))
+  kind-inside = rw (read .kind) (kind-below file (ready .runnable) n (node .inside))
 
   cost-is : cost-of (node-at (script-of file) n .kind) ≡ getD costs (byte file (nodes + 16 * n)) 0
-  cost-is = rw (script-node file n, read .kind, cost-read file (ready .accepted) n (node .inside) costs (ready .costs-are))
+  cost-is = rw (script-node file n, read .kind, cost-read file (ready .runnable) n (node .inside) costs (ready .costs-are))
 
   abbrev cost : ℕ
   cost = getD costs (byte file (nodes + 16 * n)) 0
@@ -105,7 +105,7 @@ module _ {file : List ℕ} {nodes : ℕ} {costs : List ℕ} {n : ℕ} (ready : R
   -- 2 variable p, as it was read
   module _ (e : byte file (nodes + 16 * n) ≡ 2) {p : ℕ} (p-is : p ≡ byte file (nodes + 16 * n + 1)) where
     pub variable-inside : p < 16
-    variable-inside = rw (p-is ∙ read .p) (variable-p file (ready .accepted) n (node .inside) (sym (read .kind) ∙ e))
+    variable-inside = rw (p-is ∙ read .p) (variable-p file (ready .runnable) n (node .inside) (sym (read .kind) ∙ e))
 
     pub reads-variable : (cells : ℕ → Lab Cell) (vars : List ℤ) (tags : List ℕ) (left : ℕ) {lent : Label} → length tags ≡ 128
         → Joins (Expresses file n) cells (vars-of vars tags) left lent (evaluated (Known (getD vars p (pos 0))) left) (union lent (label-at tags p))
@@ -123,22 +123,22 @@ module _ {file : List ℕ} {nodes : ℕ} {costs : List ℕ} {n : ℕ} (ready : R
 
   module _ (e : between 3 6 (node-at (decode file) n .kind) ≡ true) {v : ℕ} where
     pub pair-first : v ≡ le16 file (nodes + 16 * n + 2) → Child expression file n v
-    pair-first q = child-of (q ∙ read .a) (pair-a file (ready .accepted) n (node .inside) e)
+    pair-first q = child-of (q ∙ read .a) (pair-a file (ready .runnable) n (node .inside) e)
 
     pub pair-second : v ≡ le16 file (nodes + 16 * n + 4) → Child expression file n v
-    pair-second q = child-of (q ∙ read .b) (pair-b file (ready .accepted) n (node .inside) e)
+    pair-second q = child-of (q ∙ read .b) (pair-b file (ready .runnable) n (node .inside) e)
 
   module _ (e : between 8 11 (node-at (decode file) n .kind) ≡ true) where
     pub query-table : {v : ℕ} → v ≡ byte file (nodes + 16 * n + 1) → v < 8
-    query-table q = rw (q ∙ read .p) (query-p file (ready .accepted) n (node .inside) e)
+    query-table q = rw (q ∙ read .p) (query-p file (ready .runnable) n (node .inside) e)
 
     -- bound i, by its two bytes
     bound-read : (i : ℕ) → i < 4 → (le16 file (nodes + 16 * n + 2 + 2 * i) ≡ bound-of (node-at (decode file) n) i) × Child expression file n (bound-of (node-at (decode file) n) i)
     unfolding bound-of
-    bound-read zero h = (ap (le16 file) (omega arith) ∙ read .a, query-a file (ready .accepted) n (node .inside) e)
-    bound-read (suc zero) h = (ap (le16 file) (omega arith) ∙ read .b, query-b file (ready .accepted) n (node .inside) e)
-    bound-read (suc (suc zero)) h = (ap (le16 file) (omega arith) ∙ read .c, query-c file (ready .accepted) n (node .inside) e)
-    bound-read (suc (suc (suc zero))) h = (ap (le16 file) (omega arith) ∙ read .d, query-d file (ready .accepted) n (node .inside) e)
+    bound-read zero h = (ap (le16 file) (omega arith) ∙ read .a, query-a file (ready .runnable) n (node .inside) e)
+    bound-read (suc zero) h = (ap (le16 file) (omega arith) ∙ read .b, query-b file (ready .runnable) n (node .inside) e)
+    bound-read (suc (suc zero)) h = (ap (le16 file) (omega arith) ∙ read .c, query-c file (ready .runnable) n (node .inside) e)
+    bound-read (suc (suc (suc zero))) h = (ap (le16 file) (omega arith) ∙ read .d, query-d file (ready .runnable) n (node .inside) e)
     bound-read (suc (suc (suc (suc i)))) h = absurd (omega arith)
 
     module _ {i : ℕ} (h : i < 4) {v : ℕ} (q : v ≡ le16 file (nodes + 16 * n + 2 + 2 * i)) where

@@ -54,18 +54,18 @@ module _ {file : List ℕ} {nodes : ℕ} {costs : List ℕ} {n : ℕ} (l : Ready
   node = node-at (decode file) n
 
   pub change-reads : Read file at node
-  change-reads = read-at file (l .accepted) n (nd .inside) nodes (l .nodes-start)
+  change-reads = read-at file (l .runnable) n (nd .inside) nodes (l .nodes-start)
 
   module _ (e : between 24 25 (node .kind) ≡ true) where
     pub names : (byte file (at + 1) < 8) × (le16 file (at + 2) < count file 1)
     names =
-        let user : byte file (at + 1) < 8 = omega (arith, change-reads .p, change-p file (l .accepted) n (nd .inside) e) in
-        let region : le16 file (at + 2) < count file 1 = omega (arith, change-reads .a, change-a file (l .accepted) n (nd .inside) e) in
+        let user : byte file (at + 1) < 8 = omega (arith, change-reads .p, change-p file (l .runnable) n (nd .inside) e) in
+        let region : le16 file (at + 2) < count file 1 = omega (arith, change-reads .a, change-a file (l .runnable) n (nd .inside) e) in
         (user, region)
 
     -- 1 read, 2 write: the first byte tells which
     pub names-read : byte file (at + 4) ≡ 1 → node .b ≡ 1
-    names-read q = omega (arith, change-reads .b, leb-true (node .b) 2 (both (leb 1 (node .b)) _ (change-b file (l .accepted) n (nd .inside) e) .1))
+    names-read q = omega (arith, change-reads .b, leb-true (node .b) 2 (both (leb 1 (node .b)) _ (change-b file (l .runnable) n (nd .inside) e) .1))
 
     pub names-write : (byte file (at + 4) ≡ 1 → ⊥) → node .b ≡ 1 → ⊥
     names-write d q = d (omega (arith, change-reads .b))

@@ -10,13 +10,12 @@ ghost use Rattle.places.specs.Sets.{union, difference};
 ghost use Rattle.book.specs.Bytes.{byte, le16, four};
 ghost use Rattle.book.specs.Layout.{count, decode};
 ghost use Rattle.book.specs.Kinds.{command, between};
-ghost use Rattle.book.specs.Refusals.{node-at, verdict};
+ghost use Rattle.book.specs.Refusals.{node-at};
 ghost use Rattle.book.specs.Start.{public-set};
-ghost use Rattle.book.specs.declared.Verdict.the-variants.{Accepted};
 ghost use Rattle.monitor.specs.Run.{update};
 ghost use Rattle.monitor.specs.Rules.{region-places};
 ghost use Rattle.monitor.specs.Call.{rows};
-ghost use Rattle.machine.specs.Ready.{script-of, Ready, Node};
+ghost use Rattle.machine.specs.Ready.{script-of, Runnable, Ready, Node};
 ghost use Rattle.machine.specs.Promises.{Changes};
 ghost use Rattle.grants.specs.Rights.{altered, kind-of};
 
@@ -63,8 +62,8 @@ fn record_kind(kind: u8, right: u8) -> u8
 }
 
 // Grants or revokes as the node at `at` says, in the sets of one right, 1 read or 2 write, and writes the record of it at the start of `rest`.
-fn alter(file: &[u8], at: usize, right: u8, sets: &mut [[u64; 8]; 8], rest: &mut [u8])
-    requires { ⌜ (verdict (now file) ≡ Accepted) × (at + 16 ≤ length (now file)) ⌝ }
+fn alter(file: &[u8; 21380], at: usize, right: u8, sets: &mut [[u64; 8]; 8], rest: &mut [u8])
+    requires { ⌜ Runnable (now file) × (at + 16 ≤ length (now file)) ⌝ }
     requires { ⌜ (byte (now file) (at + 1) < 8) × (le16 (now file) (at + 2) < count (now file) 1) ⌝ }
     requires { ⌜ (right ≤ 2) × (8 ≤ length (now rest)) ⌝ }
     ensures { λ _. ⌜ rows (now (sets .exit)) ≡ update (rows (now (sets .entry))) (byte (now (file .entry)) (at + 1))
@@ -84,7 +83,7 @@ fn alter(file: &[u8], at: usize, right: u8, sets: &mut [[u64; 8]; 8], rest: &mut
 
 // 24 grant and 25 revoke: region a for user p, in the read sets or the write sets. Stops 28, 29 and 30.
 pub fn change(
-    file: &[u8],
+    file: &[u8; 21380],
     nodes: usize,
     costs: &[u32; 27],
     public: &[u64; 8],

@@ -14,19 +14,17 @@ use Rattle.book.specs.Bytes.{byte, le16, le32, signed32}
 use Rattle.book.specs.Records.{NodeRecord, nodes-format}
 use Rattle.book.specs.Layout.{count, section, decode}
 use Rattle.book.specs.Kinds.{no-kind, expression, command, unused, table, user, region, right, between, cost-of, sort-of, Fields, fields, fields-of}
-use Rattle.book.specs.Refusals.{node-at, sorted, field-fits, node-fits, verdict, no-node}
+use Rattle.book.specs.Refusals.{node-at, sorted, field-fits, node-fits, no-node}
 use Rattle.book.specs.Start.{tabulate}
-use Rattle.book.specs.declared.Verdict.the-variants.{Accepted}
 use Rattle.book.proofs.Chains.{both}
 use Rattle.book.proofs.Decoded.{count-regions, node-read}
-use Rattle.book.proofs.Accepted.{placed, nodes-inside, accepted}
 use Rattle.book.proofs.Tabulate.{tabulate-at}
 use Rattle.monitor.specs.Labelled.{Label}
 use Rattle.monitor.specs.Syntax.{Cmd, cmd-of}
 use Rattle.monitor.specs.Rules.{eval, exec}
 use Rattle.monitor.specs.Rules as rules
 use Rattle.monitor.specs.Call.{script}
-use Rattle.machine.specs.Ready.{script-of, Node}
+use Rattle.machine.specs.Ready.{script-of, Runnable, Node}
 use Rattle.machine.specs.Promises.{env, Commands}
 
 -- the rules' node is the file's
@@ -52,7 +50,7 @@ pub record Read (file : List ℕ) (at : ℕ) (x : NodeRecord) : Type 0 where
   pub d : le16 file (at + 8) ≡ x .d
   pub k : signed32 (le32 file (at + 10)) ≡ x .k
   pub end : at + 16 ≤ length file
-  pub short : length file ≤ 60000
+  pub short : length file ≤ 21380
 
 -- a field that names a child: a lower number, and a node of that sort
 pub record Child (sort : ℕ) (file : List ℕ) (n v : ℕ) : Type 0 where
@@ -103,7 +101,7 @@ change-fields-of k e = go (ℕ-discrete k 24)
         let q : k ≡ 25 = omega arith in
         rw q
 
-module _ (file : List ℕ) (v : verdict file ≡ Accepted) (n : ℕ) (h : n < count file 3) where
+module _ (file : List ℕ) (v : Runnable file) (n : ℕ) (h : n < count file 3) where
   abbrev x : NodeRecord
   x = node-at (decode file) n
 
@@ -112,7 +110,7 @@ module _ (file : List ℕ) (v : verdict file ≡ Accepted) (n : ℕ) (h : n < co
   pub read-at : (nodes : ℕ) → nodes ≡ section file 3 .start → Read file (nodes + 16 * n) x
   unfolding nodes-format
   read-at nodes e =
-      let all = nodes-inside (placed file v) in
+      let all = v .nodes-inside in
       let end : nodes + 16 * n + 16 ≤ length file = omega arith in
       let is : x ≡ nodes-format .read file (nodes + 16 * n) = rw (e, mul-comm 16 n) (node-read file n no-node h) in
       record {
@@ -124,7 +122,7 @@ module _ (file : List ℕ) (v : verdict file ≡ Accepted) (n : ℕ) (h : n < co
         d = ap (λ (y : NodeRecord). y .d) (sym is);
         k = ap (λ (y : NodeRecord). y .k) (sym is);
         end = end;
-        short = placed file v .short;
+        short = v .short;
       }
 
   -- ---- the checks
@@ -132,7 +130,7 @@ module _ (file : List ℕ) (v : verdict file ≡ Accepted) (n : ℕ) (h : n < co
   checked : Checked file n (fields-of (x .kind))
   unfolding node-fits
   checked =
-      let fits = not-false (node-fits (decode file) n) (accepted file v .nodes-ok n h) in
+      let fits = not-false (node-fits (decode file) n) (v .nodes-ok n h) in
       let u : Fields = fields-of (x .kind) in
       let sort = both _ _ fits in
       let p = both (field-fits (decode file) n (u .p) (x .p)) _ (sort .1) in

@@ -7,20 +7,19 @@ use native.Mathlib.Omega.{arith}
 use lib.ListN.{length, getD}
 use Rattle.book.specs.Records.{region-of, regions-format}
 use Rattle.book.specs.Layout.{count, section}
-use Rattle.book.specs.Refusals.{no-region, verdict}
+use Rattle.book.specs.Refusals.{no-region}
 use Rattle.book.specs.declared.Section.{Section}
-use Rattle.book.specs.declared.Verdict.the-variants.{Accepted}
 use Rattle.book.proofs.Decoded.{region-read}
 use Rattle.book.proofs.Accepted.{region-inside, region-table}
 use Rattle.monitor.specs.Call.{script}
-use Rattle.machine.specs.Ready.{script-of}
+use Rattle.machine.specs.Ready.{script-of, Runnable}
 
-module _ (file : List ℕ) (v : verdict file ≡ Accepted) (j : ℕ) (h : j < count file 1) (at : Section) (e : at ≡ section file 1) where
+module _ (file : List ℕ) (v : Runnable file) (j : ℕ) (h : j < count file 1) (at : Section) (e : at ≡ section file 1) where
   pub record-inside : at .start + 8 * j + 8 ≤ length file
-  record-inside = rw e (omega (arith, region-inside file v j h))
+  record-inside = rw e (omega (arith, region-inside file j h (v .regions-inside)))
 
   pub table-inside : region-of (regions-format .read file (at .start + 8 * j)) .table < 8
-  table-inside = rw (e, mul-comm 8 j) (region-table file v j h)
+  table-inside = rw (e, mul-comm 8 j) (region-table file j h (v .regions-ok j h))
 
   pub region-is : region-of (regions-format .read file (at .start + 8 * j)) ≡ region-of (getD (script-of file .regions) j no-region)
   unfolding script

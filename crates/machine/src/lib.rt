@@ -5,10 +5,9 @@ ghost use lib.ListN.{getD};
 ghost use Rattle.places.specs.Sets.{has};
 ghost use Rattle.book.specs.Records.{region-of};
 ghost use Rattle.book.specs.Layout.{count};
-ghost use Rattle.book.specs.Refusals.{no-region, verdict};
-ghost use Rattle.book.specs.declared.Verdict.the-variants.{Accepted};
+ghost use Rattle.book.specs.Refusals.{no-region};
 ghost use Rattle.monitor.specs.Rules.{region-places};
-ghost use Rattle.machine.specs.Ready.{script-of};
+ghost use Rattle.machine.specs.Ready.{script-of, Runnable};
 ghost use Rattle.machine.specs.Promises.{ran, stop-of};
 
 // The value of an expression, or the stop on the way to it: its number and its node.
@@ -50,8 +49,8 @@ pub struct Variables {
 }
 
 // Region `region` of an accepted book.
-fn region_of(file: &[u8], region: usize) -> regions::Region
-    requires { ⌜ (verdict (now file) ≡ Accepted) × (region < count (now file) 1) ⌝ }
+fn region_of(file: &[u8; 21380], region: usize) -> regions::Region
+    requires { ⌜ Runnable (now file) × (region < count (now file) 1) ⌝ }
     ensures { λ r. ⌜ (r ≡ region-of (getD (script-of (now (file .entry)) .regions) region no-region)) × (r .table < 8) ⌝ }
 {
     let regions = book::section_at(file, 1);
@@ -59,16 +58,16 @@ fn region_of(file: &[u8], region: usize) -> regions::Region
 }
 
 // The places of region `region` of an accepted book.
-pub fn region_places(file: &[u8], region: usize) -> [u64; 8]
-    requires { ⌜ (verdict (now file) ≡ Accepted) × (region < count (now file) 1) ⌝ }
+pub fn region_places(file: &[u8; 21380], region: usize) -> [u64; 8]
+    requires { ⌜ Runnable (now file) × (region < count (now file) 1) ⌝ }
     ensures { λ r. ⌜ r ≡ region-places (script-of (now (file .entry))) region ⌝ }
 {
     regions::region_set(region_of(file, region))
 }
 
 // Whether `place` is one of them.
-pub fn region_holds(file: &[u8], region: usize, place: usize) -> bool
-    requires { ⌜ (verdict (now file) ≡ Accepted) × (region < count (now file) 1) × (place < 512) ⌝ }
+pub fn region_holds(file: &[u8; 21380], region: usize, place: usize) -> bool
+    requires { ⌜ Runnable (now file) × (region < count (now file) 1) × (place < 512) ⌝ }
     ensures { λ r. ⌜ r ≡ has (region-places (script-of (now (file .entry))) region) place ⌝ }
 {
     regions::holds(region_of(file, region), place)

@@ -43,14 +43,14 @@ module _ {file : List ℕ} {nodes : ℕ} {costs public trace : List ℕ} {used n
   node = node-at (decode file) n
 
   pub out-read : Read file at node
-  out-read = read-at file (l .ready .accepted) n (nd .inside) nodes (l .ready .nodes-start)
+  out-read = read-at file (l .ready .runnable) n (nd .inside) nodes (l .ready .nodes-start)
 
   module _ (k : node .kind ≡ 23) where
     pub user-below : {p : ℕ} → p ≡ byte file (at + 1) → p < 8
-    user-below e = omega (arith, out-read .p, out-p file (l .ready .accepted) n (nd .inside) k)
+    user-below e = omega (arith, out-read .p, out-p file (l .ready .runnable) n (nd .inside) k)
 
     pub value-node : {a : ℕ} → a ≡ le16 file (at + 2) → Node expression file a
-    value-node e = rw (e, out-read .a) (out-a file (l .ready .accepted) n (nd .inside) k .node)
+    value-node e = rw (e, out-read .a) (out-a file (l .ready .runnable) n (nd .inside) k .node)
 
   -- the code's test is that of the rules
   pub may-read : (ctx label : Label) (read : List (List ℕ)) {told bound : Label} {p : ℕ} {fine : Bool}

@@ -11,7 +11,7 @@ ghost use Rattle.machine.specs.Promises.{Tells};
 
 // 23: out a to user p. Stop 27 where the user may not read it, 30 where the trace is full.
 pub fn out(
-    file: &[u8],
+    file: &[u8; 21380],
     nodes: usize,
     costs: &[u32; 27],
     public: &[u64; 8],

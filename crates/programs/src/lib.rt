@@ -10,7 +10,7 @@ ghost use Rattle.programs.specs.Programs.{Program, Programs};
 
 // Runs program `i` with sixteen variables 0 of empty label and the empty context.
 fn program(
-    file: &[u8],
+    file: &[u8; 21380],
     nodes: usize,
     costs: &[u32; 27],
     public: &[u64; 8],
@@ -60,7 +60,7 @@ fn program(
 
 // Runs the programs from number `i` on; a stop ends the whole run.
 pub fn programs(
-    file: &[u8],
+    file: &[u8; 21380],
     nodes: usize,
     costs: &[u32; 27],
     public: &[u64; 8],

@@ -10,14 +10,13 @@ use Rattle.places.specs.Sets.{union}
 use Rattle.book.specs.Records.{NodeRecord}
 use Rattle.book.specs.Layout.{count, decode}
 use Rattle.book.specs.Kinds.{expression}
-use Rattle.book.specs.Refusals.{node-at, verdict}
-use Rattle.book.specs.declared.Verdict.the-variants.{Accepted}
+use Rattle.book.specs.Refusals.{node-at}
 use Rattle.monitor.specs.Syntax.{put, clear, cmd-of}
 use Rattle.monitor.specs.Labelled.{Label, Lab, lit, lift, lift2}
 use Rattle.monitor.specs.Run.{Cell, M, next, _>>=_, _>>_}
 use Rattle.monitor.specs.Rules.{Key, key, key-place, posting, within-label, trigger-run, fire, write-cell, command, exec}
 use Rattle.monitor.specs.Call.{cells-of, rows}
-use Rattle.machine.specs.Ready.{script-of}
+use Rattle.machine.specs.Ready.{script-of, Runnable}
 use Rattle.machine.specs.Store.{Store, store, room-in, cell}
 use Rattle.machine.specs.Promises.{Gives, Evaluates, ran, stop-of, Does, DoesAside, env, Commands}
 use Rattle.machine.specs.Writes.{key-of, posted-end, Posts, Fires}
@@ -51,12 +50,12 @@ pub record Fields (file : List ℕ) (n : ℕ) : Type 0 where
   pub a : Child expression file n (node-at (decode file) n .a)
   pub b : Child expression file n (node-at (decode file) n .b)
 
-fields-known : (file : List ℕ) → verdict file ≡ Accepted → (n : ℕ) → n < count file 3 → {event : ℕ} → Event event
+fields-known : (file : List ℕ) → Runnable file → (n : ℕ) → n < count file 3 → {event : ℕ} → Event event
     → node-at (decode file) n .kind ≡ 20 + event → Fields file n
 fields-known file v n h puts e = record { p = put-p file v n h e; a = put-a file v n h e; b = put-b file v n h e }
 fields-known file v n h clears e = record { p = clear-p file v n h e; a = clear-a file v n h e; b = clear-b file v n h e }
 
-pub post-fields : (file : List ℕ) → verdict file ≡ Accepted → (n : ℕ) → n < count file 3 → (event : ℕ) → node-at (decode file) n .kind ≡ 20 + event
+pub post-fields : (file : List ℕ) → Runnable file → (n : ℕ) → n < count file 3 → (event : ℕ) → node-at (decode file) n .kind ≡ 20 + event
     → 0 < event → event < 3 → Fields file n
 post-fields file v n h event e low high = fields-known file v n h (event-of event low high) e
 

@@ -27,7 +27,7 @@ pub struct Posting {
 
 // The amount that a put writes, or 0 of empty label for a clear.
 fn new_amount(
-    file: &[u8],
+    file: &[u8; 21380],
     nodes: usize,
     costs: &[u32; 27],
     n: usize,
@@ -86,7 +86,7 @@ fn unwritten(answer: Value, left: u32) -> Posting
 
 // 21 put and 22 clear (event 1 and 2): the key and the amount, and the write.
 pub fn post(
-    file: &[u8],
+    file: &[u8; 21380],
     nodes: usize,
     costs: &[u32; 27],
     n: usize,

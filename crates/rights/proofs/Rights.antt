@@ -19,7 +19,7 @@ use Rattle.book.specs.Start.{rights-hold, right-set}
 use Rattle.book.specs.declared.Section.{Section}
 use Rattle.book.specs.declared.Verdict.the-variants.{Accepted}
 use Rattle.book.proofs.Decoded.{count-rights, region-read, right-read}
-use Rattle.book.proofs.Accepted.{placed, region-inside, region-table}
+use Rattle.book.proofs.Accepted.{placed, accepted, regions-inside, region-inside, region-table}
 use Rattle.rights.proofs.Accepted.{right-at, region-exists}
 
 -- ---- the set of some records
@@ -97,11 +97,11 @@ module _ (s : List ℕ) (v : verdict s ≡ Accepted) (kind user : ℕ) where
     -- the region that it names
     pub region-fits-in : first + byte s (start + i * 4 + 2) * 8 + 8 ≤ length s
     unfolding rights-format
-    region-fits-in = rw (g .regions-at, g .rights-at) (region-inside s v _ (region-exists s v i lt))
+    region-fits-in = rw (g .regions-at, g .rights-at) (region-inside s _ (region-exists s v i lt) (regions-inside (placed s v)))
 
     pub table-fits-in : region-of (regions-format .read s (first + byte s (start + i * 4 + 2) * 8)) .table < 8
     unfolding rights-format
-    table-fits-in = rw (g .regions-at, g .rights-at) (region-table s v _ (region-exists s v i lt))
+    table-fits-in = rw (g .regions-at, g .rights-at) (region-table s _ (region-exists s v i lt) (accepted s v .regions-ok _ (region-exists s v i lt)))
 
     -- the record is of another kind
     pub gathered-kind : (byte s (start + i * 4) ≡ kind → ⊥) → Gathering s kind user first start words i

@@ -1,2 +1,3 @@
+pub mod Behind
 pub mod Calls
 pub mod Results

@@ -1,5 +1,5 @@
 -- The end of a book's programs as the result of the call. Assumes nothing.
-use mathlib.Core.Path.{_≡_, refl, sym, ap, _∙_}
+use mathlib.Core.Path.{_≡_, refl, sym, ap, _∙_, subst}
 use mathlib.Core.List.{List, _++_}
 use mathlib.Core.Bool.{true}
 use Prim.Native.Nat.{ℕ, _-_, _*_, _/_}
@@ -7,13 +7,14 @@ use native.Mathlib.Nat.{zero-add, sub-zero, le-refl}
 use lib.IntN.{ℤ, pos}
 use lib.ListN.{length, drop}
 use Rattle.places.specs.Sets.{Words}
+use Rattle.book.specs.Records.{Book}
 use Rattle.book.specs.Layout.{decode}
 use Rattle.book.specs.Start.{Lengths, read-sets, write-sets}
 use Rattle.book.specs.declared.Verdict.the-variants.{Accepted}
 use Rattle.monitor.specs.Labelled.{Label, lit}
-use Rattle.monitor.specs.Run.{State, Rec, sixteen}
-use Rattle.monitor.specs.Rules.{run}
-use Rattle.monitor.specs.Call.{Memory, trace-bytes, start-cells, start-rights, start-state, run-book, memory-after, result-of, answered}
+use Rattle.monitor.specs.Run.{State, Rec, sixteen, each}
+use Rattle.monitor.specs.Rules.{program, run}
+use Rattle.monitor.specs.Call.{Memory, script, trace-bytes, start-cells, start-rights, start-state, run-book, memory-after, result-of, answered}
 use Rattle.monitor.proofs.Memory.{Sizes, amounts-kept, presence-kept, labels-kept}
 use Rattle.monitor.proofs.Start.{start-sizes}
 use Rattle.machine.specs.Store.{Store, store, state, with-records}
@@ -24,6 +25,7 @@ use Rattle.machine.specs.declared.Ran.{Ran}
 use Rattle.programs.specs.Programs.{Programs}
 use Rattle.entry.specs.Entry.{lent, result, ended-as, answer-of}
 use Rattle.runner.specs.Start.{Loaded, Ended}
+use Rattle.runner.proofs.Behind.{Script}
 
 -- the end of a run as the result
 ended-result : (budget : ℕ) (m : Memory) (o : Outcome) (obstacle : Label) (records : List Rec) (s : State)
@@ -32,12 +34,17 @@ unfolding result-of ended ended-as
 ended-result budget m Done obstacle records s = refl
 ended-result budget m (Stopped number node) obstacle records s = refl
 
--- the programs ran from the book's rights
-pub ran-to : {file : List ℕ} {budget : ℕ} {amounts amounts' : List ℤ} {presence presence' labels labels' trace trace' : List ℕ} {read write read' write' : List (List ℕ)} {r : Ran}
-    → read ≡ read-sets (decode file) → write ≡ write-sets (decode file)
-    → DoesAside (Programs file 0) (store amounts presence labels read write trace) budget 0 r (store amounts' presence' labels' read' write' trace')
+-- the programs ran from the book's rights, on bytes that hold the same records
+pub ran-to : {file bytes : List ℕ} {budget : ℕ} {amounts amounts' : List ℤ} {presence presence' labels labels' trace trace' : List ℕ} {read write read' write' : List (List ℕ)} {r : Ran}
+    → Script file bytes → read ≡ read-sets (decode file) → write ≡ write-sets (decode file)
+    → DoesAside (Programs bytes 0) (store amounts presence labels read write trace) budget 0 r (store amounts' presence' labels' read' write' trace')
     → Ended file budget (lent amounts presence labels trace) r (lent amounts' presence' labels' trace')
-ran-to {read' = read'} {write' = write'} read-is write-is d = record { read = read'; write = write'; does = rw (read-is, write-is) at d }
+ran-to {budget = budget} {amounts} {amounts'} {presence} {presence'} {labels} {labels'} {trace} {trace'} {read} {write} {read'} {write'} {r} copy read-is write-is d =
+    record { read = read'; write = write'; does = rw (read-is, write-is) at (subst ran (copy .same) d) }
+  where
+    ran : Book → Type 0
+    ran b = DoesAside (λ fuel. each (drop 0 (script b .programs)) (program (script b) true fuel)) (store amounts presence labels read write trace) budget 0 r
+        (store amounts' presence' labels' read' write' trace')
 
 -- copies of loaded cells are a start, too
 pub copied-start : {file : List ℕ} {m : Memory} {amounts : List ℤ} {presence labels : List ℕ} → Loaded file m

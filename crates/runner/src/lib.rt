@@ -26,7 +26,8 @@ fn store_cells(
     memory::copy_words(tags, labels);
 }
 
-// Runs the programs of a book whose start state is in the arrays.
+// Runs the programs of a book whose start state is in the arrays. The book itself is copied to the end of an array, which is lent as one
+// address, where a slice is not. Its sections are found from the end, so that what stands before it is not read.
 fn run_programs(
     file: &[u8],
     budget: u32,
@@ -39,13 +40,16 @@ fn run_programs(
     ensures { λ r. ⌜ Ended (now (file .entry)) budget (lent (now (amounts .entry)) (now (presence .entry)) (now (labels .entry)) (now (trace .entry)))
         r (lent (now (amounts .exit)) (now (presence .exit)) (now (labels .exit)) (now (trace .exit))) ⌝ }
 {
-    let nodes = book::section_at(file, 3).start;
+    let mut script = [0u8; 21380];
+    let size = file.len();
+    encoder::copy_part(file, 0, size, &mut script, 21380 - size);
+    let nodes = book::section_at(&script, 3).start;
     let costs = kinds::costs();
     let public = rights::public_set(file);
     let mut read = rights::right_sets(file, 1);
     let mut write = rights::right_sets(file, 2);
     programs::programs(
-        file,
+        &script,
         nodes,
         &costs,
         &public,

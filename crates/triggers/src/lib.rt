@@ -3,10 +3,8 @@ use machine::Variables;
 ghost use mathlib.Core.Path.{_≡_};
 ghost use Prim.Native.Nat.{_-_, _<_};
 ghost use Rattle.book.specs.Layout.{count, section};
-ghost use Rattle.book.specs.Refusals.{verdict};
-ghost use Rattle.book.specs.declared.Verdict.the-variants.{Accepted};
 ghost use Rattle.monitor.specs.Rules.{fitting, trigger-at, trigger-vars};
-ghost use Rattle.machine.specs.Ready.{script-of};
+ghost use Rattle.machine.specs.Ready.{script-of, Runnable};
 ghost use Rattle.machine.specs.Store.{vars-of, cell};
 ghost use Rattle.machine.specs.Writes.{key-of};
 ghost use Rattle.triggers.specs.Search.{first-fitting};
@@ -18,8 +16,8 @@ pub enum Fitting {
 }
 
 // Whether trigger `t` fits the write of the cell at `place`: its event, and its region holds the place.
-fn fits(file: &[u8], triggers: book::Section, t: usize, event: u8, place: usize) -> bool
-    requires { ⌜ (verdict (now file) ≡ Accepted) × (triggers ≡ section (now file) 5) × (t < count (now file) 5) × (place < 512) ⌝ }
+fn fits(file: &[u8; 21380], triggers: book::Section, t: usize, event: u8, place: usize) -> bool
+    requires { ⌜ Runnable (now file) × (triggers ≡ section (now file) 5) × (t < count (now file) 5) × (place < 512) ⌝ }
     ensures { λ r. ⌜ r ≡ fitting (script-of (now (file .entry))) event place (trigger-at (script-of (now (file .entry))) t) ⌝ }
 {
     let start = triggers.start;
@@ -31,8 +29,8 @@ fn fits(file: &[u8], triggers: book::Section, t: usize, event: u8, place: usize)
 }
 
 // The first trigger from number `t` on that fits the write of the cell at `place`.
-pub fn next_fitting(file: &[u8], t: usize, event: u8, place: usize) -> Fitting
-    requires { ⌜ (verdict (now file) ≡ Accepted) × (place < 512) ⌝ }
+pub fn next_fitting(file: &[u8; 21380], t: usize, event: u8, place: usize) -> Fitting
+    requires { ⌜ Runnable (now file) × (place < 512) ⌝ }
     ensures { λ r. ⌜ r ≡ first-fitting (now (file .entry)) event place (count (now (file .entry)) 5 - t) t ⌝ }
 {
     let triggers = book::section_at(file, 5);

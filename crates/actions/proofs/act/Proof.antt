@@ -14,39 +14,39 @@ use Rattle.actions.proofs.act.Tie as tie
 
 -- the node's record
 read : (s : tie.Start) → Read (s .args .file .now) (s .args .nodes + 16 * s .args .n) (node-at (decode (s .args .file .now)) (s .args .n))
-read s = read-at (s .args .file .now) (s .pre .0 .ready .accepted) (s .args .n) (s .pre .1 .0 .inside) (s .args .nodes) (s .pre .0 .ready .nodes-start)
+read s = read-at (s .args .file .now) (s .pre .0 .ready .runnable) (s .args .n) (s .pre .1 .0 .inside) (s .args .nodes) (s .pre .0 .ready .nodes-start)
 
 mul-kind : tie.Need-mul-kind
 mul-kind c =
-    let s = c .before .before in
+    let s = c .before in
     omega (arith, read s .end, read s .short)
 
 add-kind : tie.Need-add-kind
 add-kind c =
-    let s = c .before .before in
+    let s = c .before in
     omega (arith, read s .end, read s .short)
 
-shared-slice-read-kind : tie.Need-shared-slice-read-kind
-shared-slice-read-kind c =
-    let s = c .before .before .before in
+element-copy-out-kind : tie.Need-element-copy-out-kind
+element-copy-out-kind c =
+    let s = c .before in
     omega (arith, read s .end, read s .short)
 
 assign-requires : tie.Need-assign-requires
 assign-requires c κs =
     let met = c .before .before in
-    let s = met .before .before .before .before in
+    let s = met .before .before .before in
     (s .pre .0 .ready, s .pre .1 .0, (sym (read s .kind) ∙ met .match .keys1))
 
 out-requires : tie.Need-out-requires
 out-requires c κs =
     let met = c .before .before .before .before in
-    let s = met .before .before .before .before in
+    let s = met .before .before .before in
     (s .pre .0, (s .pre .1 .0, (sym (read s .kind) ∙ met .match .keys2)))
 
 raise-requires : tie.Need-raise-requires
 raise-requires c κs =
     let met = c .before .before in
-    let s = met .before .before .before .before in
+    let s = met .before .before .before in
     (s .pre .0 .ready, s .pre .1 .0, (sym (read s .kind) ∙ met .match .keys3))
 
 change-requires : tie.Need-change-requires
@@ -54,7 +54,7 @@ change-requires c κs =
     let low = c .before .before .before in
     let high = low .before in
     let met = high .before in
-    let s = met .before .before .before .before in
+    let s = met .before .before .before in
     let lent = s .pre .0 in
     let kind = ap (between 24 25) (sym (read s .kind))
     ∙ change-kind (ap (between 18 22) (read s .kind) ∙ s .pre .1 .1) (met .match .rest .0 .1) (high .if1 .left) (low .if2 .taken) in
@@ -65,7 +65,7 @@ finished-requires c κs = tt
 
 returns : tie.Need-returns
 returns c =
-    let s = c .before .before .before .before .before .before .before in
+    let s = c .before .before .before .before .before .before in
     let a = s .args in
     record { does = λ above. c .assign .ensures .does (a .user) above (a .read .now) (a .write .now) (a .trace .now) (s .pre .0 .room) }
 
@@ -74,13 +74,13 @@ same-length c = c .before .before .out .kept .1 .1 .1 .1 .1 .1 .1 .1 .1 .1 .1 .1
 
 returns-2 : tie.Need-returns-2
 returns-2 c =
-    let s = c .before .before .before .before .before .before .before .before .before .before .before in
+    let s = c .before .before .before .before .before .before .before .before .before .before in
     let a = s .args in
     record { does = λ above. c .before .before .out .ensures .does (a .user) above (a .write .now) }
 
 returns-3 : tie.Need-returns-3
 returns-3 c =
-    let s = c .before .before .before .before .before .before .before in
+    let s = c .before .before .before .before .before .before in
     let a = s .args in
     record {
       does = λ above. c .raise .ensures .assigns (a .amounts .now) (a .presence .now) (a .labels .now) .does (a .user) above (a .read .now) (a .write .now)
@@ -92,7 +92,7 @@ same-length-2 c = c .before .before .change .kept .1 .1 .1 .1 .1 .1 .1 .1 .1 .1 
 
 returns-4 : tie.Need-returns-4
 returns-4 c =
-    let s = c .before .before .before .before .before .before .before .before .before .before .before .before in
+    let s = c .before .before .before .before .before .before .before .before .before .before .before in
     let a = s .args in
     record {
       does = λ above. c .before .before .change .ensures .does above (vars-of (a .vars .now) (a .tags .now)) (a .amounts .now) (a .presence .now)
@@ -103,7 +103,7 @@ returns-5 : tie.Need-returns-5
 returns-5 c =
     let split = c .before in
     let met = split .before in
-    let s = met .before .before .before .before in
+    let s = met .before .before .before in
     let a = s .args in
     let no = met .match .rest in
     let kind = skip-kind (ap (between 18 22) (read s .kind) ∙ s .pre .1 .1) (no .0 .1) (node-at (decode (a .file .now)) (a .n)) (read s .kind)
@@ -116,7 +116,7 @@ act-spec =
     (tie.spec
     mul-kind
     add-kind
-    shared-slice-read-kind
+    element-copy-out-kind
     assign-requires
     out-requires
     raise-requires

@@ -18,20 +18,20 @@ use Rattle.assignments.proofs.assign.Tie as tie
 
 -- the node's record
 read : (s : tie.Start) → Read (s .args .file .now) (s .args .nodes + 16 * s .args .n) (node-at (decode (s .args .file .now)) (s .args .n))
-read s = read-at (s .args .file .now) (s .pre .0 .accepted) (s .args .n) (s .pre .1 .inside) (s .args .nodes) (s .pre .0 .nodes-start)
+read s = read-at (s .args .file .now) (s .pre .0 .runnable) (s .args .n) (s .pre .1 .inside) (s .args .nodes) (s .pre .0 .nodes-start)
 
 -- what its fields name
 variable : (s : tie.Start) → node-at (decode (s .args .file .now)) (s .args .n) .p < 16
-variable s = assign-p (s .args .file .now) (s .pre .0 .accepted) (s .args .n) (s .pre .1 .inside) (s .pre .2)
+variable s = assign-p (s .args .file .now) (s .pre .0 .runnable) (s .args .n) (s .pre .1 .inside) (s .pre .2)
 
 value : (s : tie.Start) → Child expression (s .args .file .now) (s .args .n) (node-at (decode (s .args .file .now)) (s .args .n) .a)
-value s = assign-a (s .args .file .now) (s .pre .0 .accepted) (s .args .n) (s .pre .1 .inside) (s .pre .2)
+value s = assign-a (s .args .file .now) (s .pre .0 .runnable) (s .args .n) (s .pre .1 .inside) (s .pre .2)
 
 mul-at : tie.Need-mul-at
-mul-at c = omega (arith, read (c .before) .end, read (c .before) .short)
+mul-at c = omega (arith, read (c) .end, read (c) .short)
 
 add-at : tie.Need-add-at
-add-at c = omega (arith, read (c .before) .end, read (c .before) .short)
+add-at c = omega (arith, read (c) .end, read (c) .short)
 
 add-u16-at : tie.Need-add-u16-at
 add-u16-at c = omega (arith, read (c .before) .end, read (c .before) .short)
@@ -63,15 +63,15 @@ returns c =
 
 add-byte-at : tie.Need-add-byte-at
 add-byte-at c =
-    let s = c .before .before .before .before .before .before .before .before .before in
+    let s = c .before .before .before .before .before .before .before .before .before .before in
     omega (arith, read s .end, read s .short)
 
 byte-at-requires : tie.Need-byte-at-requires
-byte-at-requires c κs = omega (arith, read (c .before .before .before .before .before .before .before .before .before) .end)
+byte-at-requires c κs = omega (arith, read (c .before .before .before .before .before .before .before .before .before .before) .end)
 
 label-at-requires : tie.Need-label-at-requires
 label-at-requires c κs =
-    let s = c .before .before .before .before .before .before .before .before .before .before .before .before .before in
+    let s = c .before .before .before .before .before .before .before .before .before .before .before .before .before .before in
     omega (arith, c .before .before .before .byte-at .ensures .0, read s .p, variable s, c .label-at-arg2 .given .0)
 
 within-requires : tie.Need-within-requires
@@ -84,7 +84,7 @@ returns-2 : tie.Need-returns-2
 returns-2 c =
     let tested = c .before .before in
     let named = tested .before .before .before .before .before in
-    let answered = named .before .before .before in
+    let answered = named .before .before .before .before in
     let evaluated = answered .before .before in
     let s = evaluated .before .before .before .before .before in
     let test = old-label (s .args .vars .now) (s .args .tags .now) _ (s .args .ctx .now) (tested .before .label-at .ensures) (tested .within .ensures) in
@@ -99,7 +99,7 @@ union-requires c κs = search needs
 store-variable-requires : tie.Need-store-variable-requires
 store-variable-requires c κs =
     let named = c .before .before .before .before .before .before .before .before .before in
-    let s = named .before .before .before .before .before .before .before .before .before .before in (
+    let s = named .before .before .before .before .before .before .before .before .before .before .before in (
       omega (arith, named .byte-at .ensures .0, read s .p, variable s, c .before .before .store-variable-arg .given .0),
       omega (arith, named .byte-at .ensures .0, read s .p, variable s, c .before .store-variable-arg2 .given .0),
     )
@@ -111,11 +111,11 @@ returns-3 : tie.Need-returns-3
 returns-3 c =
     let tested = c .before .before .before .before .before .before in
     let named = tested .before .before .before .before .before in
-    let answered = named .before .before .before in
+    let answered = named .before .before .before .before in
     let evaluated = answered .before .before in
     let s = evaluated .before .before .before .before .before in
     let test = old-label (s .args .vars .now) (s .args .tags .now) _ (s .args .ctx .now) (tested .before .label-at .ensures) (tested .within .ensures) in
-    let fits : SFits w32 (answered .answer .given .0 .0) = record { sfits = named .before .before .known-told .given .0 .1 } in
+    let fits : SFits w32 (answered .answer .given .0 .0) = record { sfits = named .before .before .before .known-told .given .0 .1 } in
     assign-sets (s .args .file .now) (s .args .ctx .now) (s .args .n) (s .args .left) (s .args .used) (s .args .amounts .now) (s .args .presence .now) (s .args .labels .now)
     (vars-of (s .args .vars .now) (s .args .tags .now)) (s .pre .2)
     (evaluated .before .before .before .u16-at .ensures .0 ∙ read s .a) (evaluated .eval .ensures) (named .byte-at .ensures .0 ∙ read s .p) (answered .answer .given .1)

@@ -18,12 +18,12 @@ node s = command-read (s .pre .0) (s .pre .1 .0)
 
 mul-at : tie.Need-mul-at
 mul-at c =
-    let s = c .before in
+    let s = c in
     omega (arith, node s .end, node s .short)
 
 add-at : tie.Need-add-at
 add-at c =
-    let s = c .before in
+    let s = c in
     omega (arith, node s .end, node s .short)
 
 add-u16-at : tie.Need-add-u16-at
@@ -44,7 +44,7 @@ eval-requires c κs =
 led-requires : tie.Need-led-requires
 led-requires c κs =
     let s = c .before .before .before in
-    (s .pre .0 .accepted, s .pre .0 .nodes-start, s .pre .1 .0 .inside)
+    (s .pre .0 .runnable, s .pre .0 .nodes-start, s .pre .1 .0 .inside)
 
 union-requires : tie.Need-union-requires
 union-requires c κs = tt

@@ -19,22 +19,22 @@ node s = command-read (s .pre .0) (s .pre .1)
 
 mul-at : tie.Need-mul-at
 mul-at c =
-    let s = c .before in
+    let s = c in
     omega (arith, node s .end, node s .short)
 
 add-at : tie.Need-add-at
 add-at c =
-    let s = c .before in
+    let s = c in
     omega (arith, node s .end, node s .short)
 
-shared-slice-read-if1 : tie.Need-shared-slice-read-if1
-shared-slice-read-if1 c =
-    let s = c .before .before in
+element-copy-out-if1 : tie.Need-element-copy-out-if1
+element-copy-out-if1 c =
+    let s = c in
     omega (arith, node s .end, node s .short)
 
 returns : tie.Need-returns
 returns c =
-    let s = c .before .before .before in
+    let s = c .before .before in
     single λ e. c .if1 .taken (node s .kind ∙ e)
 
 element-copy-out-cost : tie.Need-element-copy-out-cost
@@ -43,7 +43,7 @@ element-copy-out-cost c = lit< tt
 returns-2 : tie.Need-returns-2
 returns-2 c =
     let after-if1 = c .before .before in
-    let s = after-if1 .before .before .before in
+    let s = after-if1 .before .before in
     unpaid (sym (node s .kind) ∙ after-if1 .if1 .left) (c .if2 .taken)
 
 add-u16-at : tie.Need-add-u16-at
@@ -58,9 +58,9 @@ u16-at-requires c κs =
 
 returns-3 : tie.Need-returns-3
 returns-3 c =
-    let after-if2 = c .before in
+    let after-if2 = c .before .before in
     let after-if1 = after-if2 .before .before in
-    let s = after-if1 .before .before .before in
+    let s = after-if1 .before .before in
     let a = s .args in
     let x = node-at (decode (a .file .now)) (a .n) in
     let cost = getD (a .costs .now) 18 0 in
@@ -73,7 +73,7 @@ head-of-spec =
     (tie.spec
     mul-at
     add-at
-    shared-slice-read-if1
+    element-copy-out-if1
     returns
     element-copy-out-cost
     returns-2

@@ -34,18 +34,18 @@ failed-requires c κs = tt
 returns : tie.Need-returns
 unfolding leads stop-of
 returns c =
-    let s = c .before .before .before .before in
+    let s = c .before .before .before in
     let told = c .before .enum-told .given .1 in
     ap (λ (r : Ran). End (r .outcome)) (c .failed .ensures) ∙ ap (λ (v : Value). End (stop-of v)) told ∙ sym (ap (leads (node-at (decode (s .args .file .now)) (s .args .n))) told)
 
 mul-at : tie.Need-mul-at
 mul-at c =
-    let s = c .before .before .before .before in
+    let s = c .before .before .before in
     omega (arith, node s .end, node s .short)
 
 add-at : tie.Need-add-at
 add-at c =
-    let s = c .before .before .before .before in
+    let s = c .before .before .before in
     omega (arith, node s .end, node s .short)
 
 add-u16-at : tie.Need-add-u16-at
@@ -61,18 +61,18 @@ u16-at-requires c κs =
 returns-2 : tie.Need-returns-2
 returns-2 c =
     let s = c .before .before .before .before .before .before in
-    let told = c .before .before .before .answer .given in
-    sym (ap (leads (node-at (decode (s .args .file .now)) (s .args .n))) (told .1) ∙ leads-other (node-at (decode (s .args .file .now)) (s .args .n)) (told .0 .0) (other-bits (told .0 .0) (c .before .if1 .taken))
+    let told = c .before .before .before .before .answer .given in
+    sym (ap (leads (node-at (decode (s .args .file .now)) (s .args .n))) (told .1) ∙ leads-other (node-at (decode (s .args .file .now)) (s .args .n)) (told .0 .0) (other-bits (told .0 .0) (c .before .before .if1 .taken))
     ∙ ap (λ (way : ℕ). Enter way) (sym (c .u16-at .ensures .0 ∙ node s .b)))
 
-shared-slice-read-if2 : tie.Need-shared-slice-read-if2
-shared-slice-read-if2 c =
-    let s = c .before .before .before .before .before .before in
+element-copy-out-if2 : tie.Need-element-copy-out-if2
+element-copy-out-if2 c =
+    let s = c .before .before .before .before in
     omega (arith, node s .end, node s .short)
 
 returns-3 : tie.Need-returns-3
 returns-3 c =
-    let s = c .before .before .before .before .before .before .before in
+    let s = c .before .before .before .before .before .before in
     let told = c .before .before .before .before .answer .given in
     let zero = zero-bits (told .0 .0) (c .before .before .before .known-told .given .0 .1) (c .before .before .if1 .left) in
     sym (ap (leads (node-at (decode (s .args .file .now)) (s .args .n))) (told .1) ∙ leads-zero (node-at (decode (s .args .file .now)) (s .args .n)) (told .0 .0) zero
@@ -91,9 +91,9 @@ u16-at-requires-2 c κs =
 returns-4 : tie.Need-returns-4
 returns-4 c =
     let s = c .before .before .before .before .before .before .before .before in
-    let told = c .before .before .before .before .before .answer .given in
-    let zero = zero-bits (told .0 .0) (c .before .before .before .before .known-told .given .0 .1) (c .before .before .before .if1 .left) in
-    let other = ne-eqb ((node-at (decode (s .args .file .now)) (s .args .n)) .kind) 20 (λ e. c .before .if2 .left (node s .kind ∙ e)) in
+    let told = c .before .before .before .before .before .before .answer .given in
+    let zero = zero-bits (told .0 .0) (c .before .before .before .before .before .known-told .given .0 .1) (c .before .before .before .before .if1 .left) in
+    let other = ne-eqb ((node-at (decode (s .args .file .now)) (s .args .n)) .kind) 20 (λ e. c .before .before .if2 .left (node s .kind ∙ e)) in
     sym (ap (leads (node-at (decode (s .args .file .now)) (s .args .n))) (told .1) ∙ leads-zero (node-at (decode (s .args .file .now)) (s .args .n)) (told .0 .0) zero ∙ ap (λ (y : Bool). cond y (End Done) (Enter ((node-at (decode (s .args .file .now)) (s .args .n)) .c))) other
     ∙ ap (λ (way : ℕ). Enter way) (sym (c .u16-at2 .ensures .0 ∙ node s .c)))
 
@@ -110,7 +110,7 @@ led-spec =
     add-u16-at
     u16-at-requires
     returns-2
-    shared-slice-read-if2
+    element-copy-out-if2
     returns-3
     add-u16-at-2
     u16-at-requires-2

@@ -22,7 +22,7 @@ pub +join+part+query-spec : {M : Type 1} → statement M
     join.Post
     (join-needs.mul-at t)
     (join-needs.add-at t)
-    (join-needs.shared-slice-read-kind t)
+    (join-needs.element-copy-out-kind t)
     (join-needs.leaf-requires t)
     (join-needs.returns t)
     (join-needs.cast-own t)
@@ -51,7 +51,7 @@ pub +join+part+query-spec : {M : Type 1} → statement M
     part.Post
     (part-needs.mul-if1 t)
     (part-needs.add-if1 t)
-    (part-needs.shared-slice-read-if1 t)
+    (part-needs.element-copy-out-if1 t)
     (part-needs.join-requires t)
     (part-needs.returns t)
     (part-needs.leaf-requires t)
@@ -77,7 +77,7 @@ pub +join+part+query-spec : {M : Type 1} → statement M
     (query-needs.add-i t)
     (query-needs.loop-less t)
     (query-needs.loop-again t)
-    (query-needs.shared-slice-read-query t)
+    (query-needs.element-copy-out-query t)
     (query-needs.add-byte-at t)
     (query-needs.byte-at-requires t)
     (query-needs.array-copy-out-query t)

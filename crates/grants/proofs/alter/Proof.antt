@@ -6,7 +6,6 @@ use lib.Dec.{eqb}
 use lib.ListN.{drop}
 use borrow.Author.Needs.{needs}
 use Rattle.book.specs.Bytes.{byte, four}
-use Rattle.book.proofs.Accepted.{placed}
 use Rattle.monitor.specs.Run.{update}
 use Rattle.monitor.specs.Rules.{region-places}
 use Rattle.monitor.specs.Call.{rows}
@@ -15,8 +14,8 @@ use Rattle.grants.specs.Rights.{altered}
 use Rattle.grants.proofs.alter.Statement.{statement}
 use Rattle.grants.proofs.alter.Tie as tie
 
-shared-slice-read-kind : tie.Need-shared-slice-read-kind
-shared-slice-read-kind c = search needs
+element-copy-out-kind : tie.Need-element-copy-out-kind
+element-copy-out-kind c = omega (arith, c .before .pre .0 .0 .short, c .before .pre .0 .1)
 
 add-byte-at : tie.Need-add-byte-at
 add-byte-at c = search needs
@@ -39,8 +38,8 @@ cast-put-record c = search needs
 -- there are at most 64 regions
 cast-put-record-2 : tie.Need-cast-put-record-2
 cast-put-record-2 c =
-    let s = c .before .before .before .before .before .before .before in
-    omega (arith, c .before .before .u16-at .ensures .0, s .pre .1 .0 .1, placed (s .args .file .now) (s .pre .0 .0) .few-regions)
+    let s = c .before .before .before .before .before .before .before .before in
+    omega (arith, c .before .before .u16-at .ensures .0, s .pre .1 .0 .1, s .pre .0 .0 .few-regions)
 
 put-record-requires : tie.Need-put-record-requires
 put-record-requires c κs = search needs
@@ -58,7 +57,7 @@ returns : tie.Need-returns
 returns c =
     let put = c .before .before .before .before .before in
     let number = put .before .before .before in
-    let owner = number .before in
+    let owner = number .before .before in
     let s = owner .before .before .before .before in
     let sets = rows (s .args .sets .now) in
     let grants = eqb (byte (s .args .file .now) (s .args .at)) 24 in
@@ -74,7 +73,7 @@ pub alter-spec : {M : Type 1} → statement M
 alter-spec =
     tie.close
     (tie.spec
-    shared-slice-read-kind
+    element-copy-out-kind
     add-byte-at
     byte-at-requires
     add-u16-at

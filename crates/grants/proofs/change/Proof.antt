@@ -23,7 +23,7 @@ stopped-requires c κs = search needs
 -- 28: not user 0
 returns : tie.Need-returns
 returns c =
-    let s = c .before .before .before .before in
+    let s = c .before .before .before in
     change-refused _ _ _ _ _ _ _ _ (s .pre .1 .1 .1) (s .pre .1 .0 .1) (c .before .if1 .taken) (c .stopped .ensures)
 
 within-requires : tie.Need-within-requires
@@ -37,13 +37,13 @@ returns-2 : tie.Need-returns-2
 returns-2 c =
     let test = c .before .before in
     let owner = test .before .before .before in
-    let s = owner .before .before .before in
+    let s = owner .before .before in
     let is-open = public-test (s .args .file .now) (s .args .ctx .now) (test .within .ensures) (s .pre .0 .1) in
     change-hidden _ _ _ _ _ _ _ _ (s .pre .1 .1 .1) (s .pre .1 .0 .1) (owner .if1 .left) (sym is-open ∙ not-true _ (c .before .if2 .taken)) (c .stopped2 .ensures)
 
 add-end : tie.Need-add-end
 add-end c =
-    let s = c .before .before .before .before .before .before .before in
+    let s = c .before .before .before .before .before .before in
     omega (arith, s .pre .1 .0 .0, s .pre .1 .0 .1)
 
 stopped-requires-3 : tie.Need-stopped-requires-3
@@ -54,30 +54,30 @@ returns-3 : tie.Need-returns-3
 returns-3 c =
     let test = c .before .before .before in
     let owner = test .before .before .before in
-    let s = owner .before .before .before in
+    let s = owner .before .before in
     let is-open = public-test (s .args .file .now) (s .args .ctx .now) (test .within .ensures) (s .pre .0 .1) in
     change-full _ _ _ _ _ _ _ _ (s .pre .1 .1 .1) (s .pre .1 .0 .1) (owner .if1 .left) (sym is-open ∙ not-false _ (c .before .before .if2 .left))
     (c .before .if3 .taken) (c .stopped3 .ensures)
 
 mul-at : tie.Need-mul-at
 mul-at c =
-    let s = c .before .before .before .before .before .before .before .before in
+    let s = c .before .before .before .before .before .before .before in
     omega (arith, read s .end, read s .short)
 
 add-at : tie.Need-add-at
 add-at c =
-    let s = c .before .before .before .before .before .before .before .before in
+    let s = c .before .before .before .before .before .before .before in
     omega (arith, read s .end, read s .short)
 
 add-if4 : tie.Need-add-if4
 add-if4 c =
-    let s = c .before .before .before .before .before .before .before .before in
+    let s = c .before .before .before .before .before .before .before in
     omega (arith, read s .end, read s .short)
 
-shared-slice-read-if4 : tie.Need-shared-slice-read-if4
-shared-slice-read-if4 c =
-    let s = c .before .before .before .before .before .before .before .before .before in
-    omega (arith, read s .end)
+element-copy-out-if4 : tie.Need-element-copy-out-if4
+element-copy-out-if4 c =
+    let s = c .before .before .before .before .before .before .before in
+    omega (arith, read s .end, read s .short)
 
 sub-alter : tie.Need-sub-alter
 sub-alter c = search needs
@@ -90,8 +90,8 @@ part-alter-end c = search needs
 
 alter-requires : tie.Need-alter-requires
 alter-requires c κs =
-    let s = c .before .before .before .before .before .before .before .before .before .before .before .before in
-    ((s .pre .0 .0 .accepted, read s .end), (names (s .pre .0 .0) (s .pre .1 .1 .0) (s .pre .1 .1 .1), search needs))
+    let s = c .before .before .before .before .before .before .before .before .before .before .before in
+    ((s .pre .0 .0 .runnable, read s .end), (names (s .pre .0 .0) (s .pre .1 .1 .0) (s .pre .1 .1 .1), search needs))
 
 finished-requires : tie.Need-finished-requires
 finished-requires c κs = search needs
@@ -107,7 +107,7 @@ returns-4 c =
     let room = right .before .before in
     let test = room .before .before in
     let owner = test .before .before .before in
-    let s = owner .before .before .before in
+    let s = owner .before .before in
     let is-open = public-test (s .args .file .now) (s .args .ctx .now) (test .within .ensures) (s .pre .0 .1) in
     let named = names-read (s .pre .0 .0) (s .pre .1 .1 .0) (s .pre .1 .1 .1) (right .if4 .taken) in
     change-read _ _ _ _ _ _ _ _ (s .pre .1 .1 .1) (s .pre .1 .0 .1) (owner .if1 .left) (sym is-open ∙ not-false _ (room .before .if2 .left)) (room .if3 .left)
@@ -126,8 +126,8 @@ part-alter-end-2 c = search needs
 
 alter-requires-2 : tie.Need-alter-requires-2
 alter-requires-2 c κs =
-    let s = c .before .before .before .before .before .before .before .before .before .before .before .before in
-    ((s .pre .0 .0 .accepted, read s .end), (names (s .pre .0 .0) (s .pre .1 .1 .0) (s .pre .1 .1 .1), search needs))
+    let s = c .before .before .before .before .before .before .before .before .before .before .before in
+    ((s .pre .0 .0 .runnable, read s .end), (names (s .pre .0 .0) (s .pre .1 .1 .0) (s .pre .1 .1 .1), search needs))
 
 finished-requires-2 : tie.Need-finished-requires-2
 finished-requires-2 c κs = search needs
@@ -143,7 +143,7 @@ returns-5 c =
     let room = right .before .before in
     let test = room .before .before in
     let owner = test .before .before .before in
-    let s = owner .before .before .before in
+    let s = owner .before .before in
     let is-open = public-test (s .args .file .now) (s .args .ctx .now) (test .within .ensures) (s .pre .0 .1) in
     let named = names-write (s .pre .0 .0) (s .pre .1 .1 .0) (s .pre .1 .1 .1) (right .if4 .left) in
     change-write _ _ _ _ _ _ _ _ (s .pre .1 .1 .1) (s .pre .1 .0 .1) (owner .if1 .left) (sym is-open ∙ not-false _ (room .before .if2 .left)) (room .if3 .left)
@@ -166,7 +166,7 @@ change-spec =
     mul-at
     add-at
     add-if4
-    shared-slice-read-if4
+    element-copy-out-if4
     sub-alter
     part-alter-start
     part-alter-end

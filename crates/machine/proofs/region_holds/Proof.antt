@@ -22,7 +22,7 @@ holds-requires c κs = search needs
 returns : tie.Need-returns
 unfolding region-places
 returns c =
-    let s = c .before .before .before in
+    let s = c .before .before in
     let region = region-of (getD (script-of (s .args .file .now) .regions) (s .args .region) no-region) in
     c .holds .ensures
     ∙ ap (λ (r : Region). in-region r (s .args .place)) (c .before .region-of .ensures .0)

@@ -2,7 +2,6 @@
 use mathlib.Core.Path.{_∙_}
 use native.Mathlib.Omega.{arith}
 use lib.Dec.{lit<}
-use Rattle.book.proofs.Accepted.{placed}
 use Rattle.machine.proofs.Regions.{record-inside, table-inside, region-is}
 use Rattle.machine.proofs.region_of.Statement.{statement}
 use Rattle.machine.proofs.region_of.Tie as tie
@@ -10,28 +9,28 @@ use Rattle.machine.proofs.region_of.Tie as tie
 section-at-requires : tie.Need-section-at-requires
 section-at-requires c κs =
     let s = c .before in
-    let z = placed (s .args .file .now) (s .pre .0) in
+    let z = s .pre .0 in
     (lit< tt, z .long, z .back 1 (lit< tt))
 
 mul-region-at : tie.Need-mul-region-at
 mul-region-at c =
-    let s = c .before .before in
-    omega (arith, record-inside (s .args .file .now) (s .pre .0) (s .args .region) (s .pre .1) _ (c .section-at .ensures))
-
-add-region-at : tie.Need-add-region-at
-add-region-at c =
     let s = c .before .before .before in
     omega (arith, record-inside (s .args .file .now) (s .pre .0) (s .args .region) (s .pre .1) _ (c .before .section-at .ensures))
 
+add-region-at : tie.Need-add-region-at
+add-region-at c =
+    let s = c .before .before .before .before in
+    omega (arith, record-inside (s .args .file .now) (s .pre .0) (s .args .region) (s .pre .1) _ (c .before .before .section-at .ensures))
+
 region-at-requires : tie.Need-region-at-requires
 region-at-requires c κs =
-    let s = c .before .before .before in
-    record-inside (s .args .file .now) (s .pre .0) (s .args .region) (s .pre .1) _ (c .before .section-at .ensures)
+    let s = c .before .before .before .before in
+    record-inside (s .args .file .now) (s .pre .0) (s .args .region) (s .pre .1) _ (c .before .before .section-at .ensures)
 
 returns : tie.Need-returns
 returns c =
-    let s = c .before .before .before .before in
-    let at = c .before .before .section-at .ensures in (
+    let s = c .before .before .before .before .before in
+    let at = c .before .before .before .section-at .ensures in (
       c .region-at .ensures ∙ region-is (s .args .file .now) (s .pre .0) (s .args .region) (s .pre .1) _ at,
       rw (c .region-at .ensures) (table-inside (s .args .file .now) (s .pre .0) (s .args .region) (s .pre .1) _ at),
     )

@@ -28,12 +28,12 @@ variables s = vars-of (s .args .vars .now) (s .args .tags .now)
 
 mul-at : tie.Need-mul-at
 mul-at c =
-    let s = c .before .before in
+    let s = c .before in
     omega (arith, read s .end, read s .short)
 
 add-at : tie.Need-add-at
 add-at c =
-    let s = c .before .before in
+    let s = c .before in
     omega (arith, read s .end, read s .short)
 
 add-u16-at : tie.Need-add-u16-at
@@ -71,12 +71,12 @@ returns c =
 
 add-byte-at : tie.Need-add-byte-at
 add-byte-at c =
-    let s = c .before .before .before .before .before .before .before in
+    let s = c .before .before .before .before .before .before .before .before in
     omega (arith, read s .end, read s .short)
 
 byte-at-requires : tie.Need-byte-at-requires
 byte-at-requires c κs =
-    let s = c .before .before .before .before .before .before .before in
+    let s = c .before .before .before .before .before .before .before .before in
     omega (arith, read s .end)
 
 union-requires : tie.Need-union-requires
@@ -88,7 +88,7 @@ mul-union c = search needs
 element-copy-out-union : tie.Need-element-copy-out-union
 element-copy-out-union c =
     let user = c .before .before .before .before in
-    let s = user .before .before .before .before .before .before .before .before in
+    let s = user .before .before .before .before .before .before .before .before .before in
     user-below (s .pre .0) (s .pre .1 .0) (s .pre .1 .1) (user .byte-at .ensures .0)
 
 union-requires-2 : tie.Need-union-requires-2
@@ -107,7 +107,7 @@ returns-2 c =
     let bound = test .before in
     let told = bound .before .before in
     let user = told .before .before .before .before in
-    let known = user .before .before in
+    let known = user .before .before .before in
     let value = known .before .before in
     let child = value .before in
     let s = child .before .before .before in
@@ -119,7 +119,7 @@ returns-2 c =
 
 add-if2 : tie.Need-add-if2
 add-if2 c =
-    let s = c .before .before .before .before .before .before .before .before .before .before .before .before .before .before .before .before in
+    let s = c .before .before .before .before .before .before .before .before .before .before .before .before .before .before .before .before .before in
     omega (arith, s .pre .0 .short, s .pre .0 .room)
 
 stopped-requires-2 : tie.Need-stopped-requires-2
@@ -132,7 +132,7 @@ returns-3 c =
     let bound = test .before in
     let told = bound .before .before in
     let user = told .before .before .before .before in
-    let known = user .before .before in
+    let known = user .before .before .before in
     let value = known .before .before in
     let child = value .before in
     let s = child .before .before .before in
@@ -162,7 +162,7 @@ put-record-requires c κs = search needs
 
 add-finished : tie.Need-add-finished
 add-finished c =
-    let s = c .before .before .before .before .before .before .before .before .before .before .before .before .before .before .before .before .before .before .before .before .before .before in
+    let s = c .before .before .before .before .before .before .before .before .before .before .before .before .before .before .before .before .before .before .before .before .before .before .before in
     omega (arith, s .pre .0 .short, s .pre .0 .room)
 
 finished-requires : tie.Need-finished-requires
@@ -180,7 +180,7 @@ returns-4 c =
     let bound = test .before in
     let told = bound .before .before in
     let user = told .before .before .before .before in
-    let known = user .before .before in
+    let known = user .before .before .before in
     let value = known .before .before in
     let child = value .before in
     let s = child .before .before .before in
@@ -188,7 +188,7 @@ returns-4 c =
     may-read (s .pre .0) (s .pre .1 .0) (s .args .ctx .now) (value .eval .result .label) (s .args .read .now)
     (test .within .ensures) (told .union .ensures) (bound .union2 .ensures) (user .byte-at .ensures .0) in
     let z = known .answer .given .0 .0 in
-    let bits = put .before .bits-of .ensures ∙ ap bits32 (toZ-ofZ {w = w32} {z = z} (record { sfits = user .before .known-told .given .0 .1 })) in
+    let bits = put .before .bits-of .ensures ∙ ap bits32 (toZ-ofZ {w = w32} {z = z} (record { sfits = user .before .before .known-told .given .0 .1 })) in
     out-tells _ _ _ _ _ (variables s) _ _ _ _ _ (s .pre .1 .1) (child .u16-at .ensures .0 ∙ read s .a) (value .eval .ensures) (s .pre .0 .room) (known .answer .given .1)
     (sym fine ∙ not-false _ (room .before .if1 .left)) (room .if2 .left)
     (said-recorded (s .args .trace .now) (s .args .used) (room .if2 .left) z (put .put-record .ensures) (user .byte-at .ensures .0 ∙ read s .p) bits)

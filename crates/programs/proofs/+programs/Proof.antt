@@ -6,7 +6,6 @@ use lib.Dec.{lit<}
 use borrow.Author.Needs.{needs}
 use Rattle.book.specs.Layout.{count}
 use Rattle.book.specs.declared.Section.{Section}
-use Rattle.book.proofs.Accepted.{placed}
 use Rattle.programs.proofs.Sequence.{none-left, first-stops, first-goes, lent-on}
 use borrow.Fn.Kinds.{In}
 use borrow.Fn.PlainCycle.{Measures, is, falls, and}
@@ -35,7 +34,7 @@ programs-cs t = (section-at-reads.Asked, section-at-reads.Learnt, finished-reads
 programs-section-at-requires : (t : ℕ) → programs-lts.Need-section-at-requires (programs-cs t) (programs-at t) programs.Post
 programs-section-at-requires t c κs =
     let s = c .before .before in
-    let z = placed (s .args .file .now) (s .pre .1 .ready .accepted) in
+    let z = s .pre .1 .ready .runnable in
     (lit< tt, z .long, z .back 4 (lit< tt))
 
 programs-finished-requires : (t : ℕ) → programs-lts.Need-finished-requires (programs-cs t) (programs-at t) programs.Post
@@ -60,7 +59,7 @@ few : (t : ℕ) (c : programs-lts.Else1 (programs-cs t) (programs-at t) programs
     count (s .args .file .now) 4 ≤ 8
 few t c =
     let s = c .before .before .before .before .before in
-    placed (s .args .file .now) (s .pre .1 .ready .accepted) .few-programs
+    s .pre .1 .ready .runnable .few-programs
 
 programs-program-requires : (t : ℕ) → programs-lts.Need-program-requires (programs-cs t) (programs-at t) programs.Post
 programs-program-requires t c κs =

@@ -6,7 +6,6 @@ use lib.Dec.{lit<}
 use lib.ListN.{getD}
 use Rattle.book.specs.Layout.{decode}
 use Rattle.book.specs.Refusals.{no-program}
-use Rattle.book.proofs.Accepted.{placed}
 use Rattle.machine.proofs.Scripts.{ProgramRead, program-read-at}
 use Rattle.programs.proofs.Sequence.{fresh-vars, program-does}
 use Rattle.programs.proofs.program.Statement.{statement}
@@ -15,7 +14,7 @@ use Rattle.programs.proofs.program.Tie as tie
 section-at-requires : tie.Need-section-at-requires
 section-at-requires c κs =
     let s = c .before .before in
-    let z = placed (s .args .file .now) (s .pre .0 .ready .accepted) in
+    let z = s .pre .0 .ready .runnable in
     (lit< tt, z .long, z .back 4 (lit< tt))
 
 -- the program's record in the file
@@ -24,7 +23,7 @@ read-at : (c : tie.After-section-at)
     ProgramRead (s .args .file .now) (c .section-at .result .start + 4 * s .args .i) (getD (decode (s .args .file .now) .programs) (s .args .i) no-program)
 read-at c =
     let s = c .before .before .before in
-    program-read-at (s .args .file .now) (s .pre .0 .ready .accepted) (s .args .i) (s .pre .1) (c .section-at .result) (c .section-at .ensures)
+    program-read-at (s .args .file .now) (s .pre .0 .ready .runnable) (s .args .i) (s .pre .1) (c .section-at .result) (c .section-at .ensures)
 
 mul-at : tie.Need-mul-at
 mul-at c = omega (arith, read-at c .end, read-at c .short)
@@ -33,28 +32,28 @@ add-at : tie.Need-add-at
 add-at c = omega (arith, read-at (c .before) .end, read-at (c .before) .short)
 
 byte-at-requires : tie.Need-byte-at-requires
-byte-at-requires c κs = omega (arith, read-at (c .before) .end)
+byte-at-requires c κs = omega (arith, read-at (c .before .before) .end)
 
 add-u16-at : tie.Need-add-u16-at
-add-u16-at c = omega (arith, read-at (c .before .before) .end, read-at (c .before .before) .short)
+add-u16-at c = omega (arith, read-at (c .before .before .before .before) .end, read-at (c .before .before .before .before) .short)
 
 u16-at-requires : tie.Need-u16-at-requires
-u16-at-requires c κs = omega (arith, read-at (c .before .before) .end)
+u16-at-requires c κs = omega (arith, read-at (c .before .before .before .before) .end)
 
 -- what is read there is the program's user and root
 named : (c : tie.After-u16-at)
-    → let s = c .before .before .before .before .before .before in
+    → let s = c .before .before .before .before .before .before .before .before in
     let program = getD (decode (s .args .file .now) .programs) (s .args .i) no-program in
-    (c .before .byte-at .result ≡ program .user) × (c .u16-at .result ≡ program .root)
+    (c .before .before .byte-at .result ≡ program .user) × (c .u16-at .result ≡ program .root)
 named c =
-    let at = read-at (c .before .before .before) in
-    (c .before .byte-at .ensures .0 ∙ at .user, c .u16-at .ensures .0 ∙ at .root)
+    let at = read-at (c .before .before .before .before .before) in
+    (c .before .before .byte-at .ensures .0 ∙ at .user, c .u16-at .ensures .0 ∙ at .root)
 
 exec-requires : tie.Need-exec-requires
 exec-requires c κs =
     let bytes = c .before .before .before .before .before .before .before .before .before in
-    let at = read-at (bytes .before .before .before) in
-    (bytes .before .before .before .before .before .before .pre .0, (rw (named bytes .1) (at .root-command), rw (named bytes .0) (at .user-below)))
+    let at = read-at (bytes .before .before .before .before .before) in
+    (bytes .before .before .before .before .before .before .before .before .pre .0, (rw (named bytes .1) (at .root-command), rw (named bytes .0) (at .user-below)))
 
 same-length : tie.Need-same-length
 same-length c = c .before .before .exec .kept .1 .1 .1 .1 .1 .1 .1 .1 .1 .1 .1 .1 .1 .1 .1 .1 .0
@@ -63,7 +62,7 @@ returns : tie.Need-returns
 returns c =
     let ran = c .before .before in
     let bytes = ran .before .before .before .before .before .before .before .before .before .before in
-    let s = bytes .before .before .before .before .before .before in
+    let s = bytes .before .before .before .before .before .before .before .before in
     program-does (s .args .file .now) (s .args .i) _ _ (named bytes .0) (named bytes .1) fresh-vars (ran .exec .ensures)
 
 pub program-spec : {M : Type 1} → statement M

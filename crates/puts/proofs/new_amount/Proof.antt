@@ -11,7 +11,7 @@ use Rattle.puts.proofs.new_amount.Tie as tie
 
 -- the node's record
 read : (s : tie.Start) → Read (s .args .file .now) (s .args .nodes + 16 * s .args .n) (node-at (decode (s .args .file .now)) (s .args .n))
-read s = read-at (s .args .file .now) (s .pre .0 .accepted) (s .args .n) (s .pre .1 .0 .inside) (s .args .nodes) (s .pre .0 .nodes-start)
+read s = read-at (s .args .file .now) (s .pre .0 .runnable) (s .args .n) (s .pre .1 .0 .inside) (s .args .nodes) (s .pre .0 .nodes-start)
 
 mul-u16-at : tie.Need-mul-u16-at
 mul-u16-at c =
@@ -43,19 +43,19 @@ eval-requires c κs =
     let ready = start .pre .0 in
     let command = start .pre .1 .0 in
     let node = read start in
-    let kind = start .pre .1 .1 ∙ ap (λ (e : ℕ). 20 + e) (c .before .if1 .taken) in
-    (ready, rw (c .u16-at .ensures .0, node .c) (put-c (start .args .file .now) (ready .accepted) (start .args .n) (command .inside) kind .node))
+    let kind = start .pre .1 .1 ∙ ap (λ (e : ℕ). 20 + e) (c .before .before .if1 .taken) in
+    (ready, rw (c .u16-at .ensures .0, node .c) (put-c (start .args .file .now) (ready .runnable) (start .args .n) (command .inside) kind .node))
 
 returns : tie.Need-returns
 returns c =
     let start = c .before .before .before .before in
     let node = read start in
-    put-amount (start .args .file .now) (start .args .n) (start .args .event) (c .before .before .if1 .taken)
+    put-amount (start .args .file .now) (start .args .n) (start .args .event) (c .before .before .before .if1 .taken)
     (c .before .u16-at .ensures .0 ∙ node .c) (c .eval .ensures)
 
 returns-2 : tie.Need-returns-2
 returns-2 c =
-    let start = c .before .before in
+    let start = c .before in
     clear-amount (start .args .file .now) (start .args .n) (start .args .event) (c .if1 .left)
 
 pub new-amount-spec : {M : Type 1} → statement M

@@ -15,20 +15,20 @@ use Rattle.puts.proofs.post.Tie as tie
 
 -- the node's record
 node : (s : tie.Start) → Read (s .args .file .now) (s .args .nodes + 16 * s .args .n) (node-at (decode (s .args .file .now)) (s .args .n))
-node s = read-at (s .args .file .now) (s .pre .0 .accepted) (s .args .n) (s .pre .1 .0 .inside) (s .args .nodes) (s .pre .0 .nodes-start)
+node s = read-at (s .args .file .now) (s .pre .0 .runnable) (s .args .n) (s .pre .1 .0 .inside) (s .args .nodes) (s .pre .0 .nodes-start)
 
 -- what its fields name
 fields : (s : tie.Start) → Fields (s .args .file .now) (s .args .n)
-fields s = post-fields (s .args .file .now) (s .pre .0 .accepted) (s .args .n) (s .pre .1 .0 .inside) (s .args .event) (s .pre .1 .2) (s .pre .1 .3) (s .pre .1 .4)
+fields s = post-fields (s .args .file .now) (s .pre .0 .runnable) (s .args .n) (s .pre .1 .0 .inside) (s .args .event) (s .pre .1 .2) (s .pre .1 .3) (s .pre .1 .4)
 
 mul-at : tie.Need-mul-at
 mul-at c =
-    let s = c .before in
+    let s = c in
     omega (arith, node s .end, node s .short)
 
 add-at : tie.Need-add-at
 add-at c =
-    let s = c .before in
+    let s = c in
     omega (arith, node s .end, node s .short)
 
 add-u16-at : tie.Need-add-u16-at
@@ -70,17 +70,17 @@ returns c =
 
 add-u16-at-2 : tie.Need-add-u16-at-2
 add-u16-at-2 c =
-    let s = c .before .before .before .before .before .before .before .before .before in
+    let s = c .before .before .before .before .before .before .before .before .before .before in
     omega (arith, node s .end, node s .short)
 
 u16-at-requires-2 : tie.Need-u16-at-requires-2
 u16-at-requires-2 c κs =
-    let s = c .before .before .before .before .before .before .before .before .before in
+    let s = c .before .before .before .before .before .before .before .before .before .before in
     omega (arith, node s .end, node s .short)
 
 eval-requires-2 : tie.Need-eval-requires-2
 eval-requires-2 c κs =
-    let s = c .before .before .before .before .before .before .before .before .before .before .before .before .before in
+    let s = c .before .before .before .before .before .before .before .before .before .before .before .before .before .before in
     (s .pre .0, rw (c .before .before .before .u16-at2 .ensures .0, node s .b) (fields s .b .node))
 
 enum-known-second : tie.Need-enum-known-second
@@ -97,7 +97,7 @@ returns-2 c =
     let told = c .before in
     let evaluated2 = told .before .before in
     let located2 = evaluated2 .before .before .before .before in
-    let first = located2 .before .before in
+    let first = located2 .before .before .before in
     let evaluated = first .before .before in
     let located = evaluated .before .before .before .before in
     let s = located .before .before in
@@ -110,7 +110,7 @@ returns-2 c =
 
 new-amount-requires : tie.Need-new-amount-requires
 new-amount-requires c κs =
-    let s = c .before .before .before .before .before .before .before .before .before .before .before .before .before .before .before .before .before .before .before .before in
+    let s = c .before .before .before .before .before .before .before .before .before .before .before .before .before .before .before .before .before .before .before .before .before in
     (s .pre .0, (s .pre .1 .0, s .pre .1 .2))
 
 enum-known-third : tie.Need-enum-known-third
@@ -129,7 +129,7 @@ returns-3 c =
     let second = amounted .before .before .before .before .before in
     let evaluated2 = second .before .before in
     let located2 = evaluated2 .before .before .before .before in
-    let first = located2 .before .before in
+    let first = located2 .before .before .before in
     let evaluated = first .before .before in
     let located = evaluated .before .before .before .before in
     let s = located .before .before in
@@ -150,24 +150,24 @@ union-requires-2 c κs = tt
 
 add-byte-at : tie.Need-add-byte-at
 add-byte-at c =
-    let s = c .before .before .before .before .before .before .before .before .before .before .before .before .before .before .before .before .before .before .before .before .before .before .before .before .before .before .before .before .before .before in
+    let s = c .before .before .before .before .before .before .before .before .before .before .before .before .before .before .before .before .before .before .before .before .before .before .before .before .before .before .before .before .before .before .before .before in
     omega (arith, node s .end, node s .short)
 
 byte-at-requires : tie.Need-byte-at-requires
 byte-at-requires c κs =
-    let s = c .before .before .before .before .before .before .before .before .before .before .before .before .before .before .before .before .before .before .before .before .before .before .before .before .before .before .before .before .before .before in
+    let s = c .before .before .before .before .before .before .before .before .before .before .before .before .before .before .before .before .before .before .before .before .before .before .before .before .before .before .before .before .before .before .before .before in
     omega (arith, node s .end, node s .short)
 
 post-requires : tie.Need-post-requires
 post-requires c κs =
     let tabled = c .before .before .before .before .before in
-    let s = tabled .before .before .before .before .before .before .before .before .before .before .before .before .before .before .before .before .before .before .before .before .before .before .before .before .before .before .before .before .before .before .before in
+    let s = tabled .before .before .before .before .before .before .before .before .before .before .before .before .before .before .before .before .before .before .before .before .before .before .before .before .before .before .before .before .before .before .before .before .before in
     (s .pre .1 .1, omega (arith, tabled .byte-at .ensures .0, node s .p, fields s .p))
 
 returns-4 : tie.Need-returns-4
 returns-4 c =
     let tabled = c .before .before .before .before .before .before in
-    let widened = tabled .before .before in
+    let widened = tabled .before .before .before in
     let keyed = widened .before .before in
     let third-told = keyed .before .before .before in
     let third = third-told .before in
@@ -176,7 +176,7 @@ returns-4 c =
     let second = second-told .before in
     let evaluated2 = second .before .before in
     let located2 = evaluated2 .before .before .before .before in
-    let first-told = located2 .before in
+    let first-told = located2 .before .before in
     let first = first-told .before in
     let evaluated = first .before .before in
     let located = evaluated .before .before .before .before in

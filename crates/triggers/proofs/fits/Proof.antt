@@ -14,20 +14,20 @@ read : (c : tie.Start)
 read c = trigger-read-at (c .args .file .now) (c .pre .0) (c .args .t) (c .pre .2) _ (c .pre .1)
 
 mul-at : tie.Need-mul-at
-mul-at c = omega (arith, read (c .before) .end, read (c .before) .short)
+mul-at c = omega (arith, read (c) .end, read (c) .short)
 
 add-at : tie.Need-add-at
-add-at c = omega (arith, read (c .before) .end, read (c .before) .short)
+add-at c = omega (arith, read (c) .end, read (c) .short)
 
 add-if1 : tie.Need-add-if1
-add-if1 c = omega (arith, read (c .before) .end, read (c .before) .short)
+add-if1 c = omega (arith, read (c) .end, read (c) .short)
 
-shared-slice-read-if1 : tie.Need-shared-slice-read-if1
-shared-slice-read-if1 c = omega (arith, read (c .before .before) .end)
+element-copy-out-if1 : tie.Need-element-copy-out-if1
+element-copy-out-if1 c = omega (arith, read (c) .end, read (c) .short)
 
 returns : tie.Need-returns
 returns c =
-    let s = c .before .before .before in
+    let s = c .before .before in
     other-event (read s) (s .args .event) (s .args .place) (c .if1 .taken)
 
 byte-at-requires : tie.Need-byte-at-requires
@@ -40,8 +40,8 @@ region-holds-requires c κs =
 
 returns-2 : tie.Need-returns-2
 returns-2 c =
-    let compared = c .before .before in
-    let s = compared .before .before .before in
+    let compared = c .before .before .before in
+    let s = compared .before .before in
     same-event (read s) (s .args .event) (s .args .place) (compared .if1 .left) (c .before .byte-at .ensures .0) (c .region-holds .ensures)
 
 pub fits-spec : {M : Type 1} → statement M
@@ -51,7 +51,7 @@ fits-spec =
     mul-at
     add-at
     add-if1
-    shared-slice-read-if1
+    element-copy-out-if1
     returns
     byte-at-requires
     region-holds-requires

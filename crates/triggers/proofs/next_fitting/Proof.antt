@@ -5,7 +5,6 @@ use native.Mathlib.Omega.{arith}
 use lib.Dec.{lit<}
 use Rattle.book.specs.Layout.{count}
 use Rattle.book.specs.declared.Section.{Section}
-use Rattle.book.proofs.Accepted.{placed}
 use Rattle.monitor.specs.Rules.{trigger-at}
 use Rattle.machine.specs.Ready.{script-of}
 use Rattle.machine.proofs.Scripts.{TriggerRead, trigger-read-at}
@@ -24,7 +23,7 @@ abbrev μ-loop : tie.MeasureT-loop
 section-at-requires : tie.Need-section-at-requires Inv-loop μ-loop
 section-at-requires c κs =
     let s = c .before in
-    let z = placed (s .args .file .now) (s .pre .0) in
+    let z = s .pre .0 in
     (lit< tt, z .long, z .back 5 (lit< tt))
 
 loop-holds : tie.Need-loop-holds Inv-loop μ-loop
@@ -56,27 +55,27 @@ add-at : tie.Need-add-at Inv-loop μ-loop
 add-at c = omega (arith, read (c .before .before .before) .end, read (c .before .before .before) .short)
 
 add-byte-at : tie.Need-add-byte-at Inv-loop μ-loop
-add-byte-at c = omega (arith, read (c .before .before .before) .end, read (c .before .before .before) .short)
+add-byte-at c = omega (arith, read (c .before .before .before .before) .end, read (c .before .before .before .before) .short)
 
 byte-at-requires : tie.Need-byte-at-requires Inv-loop μ-loop
-byte-at-requires c κs = omega (arith, read (c .before .before .before) .end)
+byte-at-requires c κs = omega (arith, read (c .before .before .before .before) .end)
 
 add-u16-at : tie.Need-add-u16-at Inv-loop μ-loop
-add-u16-at c = omega (arith, read (c .before .before .before .before) .end, read (c .before .before .before .before) .short)
+add-u16-at c = omega (arith, read (c .before .before .before .before .before .before) .end, read (c .before .before .before .before .before .before) .short)
 
 u16-at-requires : tie.Need-u16-at-requires Inv-loop μ-loop
-u16-at-requires c κs = omega (arith, read (c .before .before .before .before) .end)
+u16-at-requires c κs = omega (arith, read (c .before .before .before .before .before .before) .end)
 
 returns : tie.Need-returns Inv-loop μ-loop
 returns c =
-    let hit = c .before .before .before in
+    let hit = c .before .before .before .before .before in
     let turn = hit .before .before in
     let a = turn .before .before .before .before .before .args in
     let x = read turn in
     sym (turn .before .before .loop .inv
     ∙ first-fits (a .file .now) (a .event) (a .place) (turn .before .before .loop .number) (inside turn)
     (sym (hit .before .fits2 .ensures) ∙ hit .if2 .taken)
-    (c .before .byte-at .ensures .0 ∙ x .user) (c .u16-at .ensures .0 ∙ x .body))
+    (c .before .before .byte-at .ensures .0 ∙ x .user) (c .u16-at .ensures .0 ∙ x .body))
 
 add-number : tie.Need-add-number Inv-loop μ-loop
 add-number c = omega (arith, read (c .before .before) .short, read (c .before .before) .end)

@@ -13,7 +13,7 @@ use Rattle.commands.proofs.+branch+enter+exec+fire+post+repeat.Proof.Co
 
 pub branch-decide-requires : (t : ℕ) → branch-lts.Need-decide-requires (branch-cs t) (branch-at t) branch.Post
 branch-decide-requires t c κs =
-    let start = c .before .before .before .before .before .before .before in
+    let start = c .before .before .before .before .before .before in
     let lent = start .pre .1 .0 in
     let mine = start .pre .1 .1 in
     (lent .ready, (mine .0, ap (between 19 20) (mine .2)))
@@ -31,7 +31,7 @@ pub branch-returns : (t : ℕ) → branch-lts.Need-returns (branch-cs t) (branch
 branch-returns t c =
     let after-enum-told = c .before in
     let after-decide = after-enum-told .before .before in
-    let start = after-decide .before .before .before .before .before .before .before .before in
+    let start = after-decide .before .before .before .before .before .before .before in
     let a = start .args in
     let lent = start .pre .1 .0 in
     let mine = start .pre .1 .1 in
@@ -41,11 +41,11 @@ pub branch-exec-requires : (t : ℕ) → branch-lts.Need-exec-requires (branch-c
 branch-exec-requires t c κs =
     let after-next = c .before .before .before .before .before .before .before .before .before .before .before in
     let after-decide = after-next .before .before in
-    let start = after-decide .before .before .before .before .before .before .before .before in
+    let start = after-decide .before .before .before .before .before .before .before in
     let a = start .args in
     let lent = start .pre .1 .0 in
     let mine = start .pre .1 .1 in
-    (omega (arith, start .pre .0, decided-less (after-decide .decide .ensures), weight-most (a .file .now) (after-next .next .given .0 .0) (after-decide .decide .result .left)), (lent, (way-child (a .file .now) (a .ctx .now) (a .user) (a .above) (a .n) (mine .2) (store (a .amounts .now) (a .presence .now) (a .labels .now) (a .read .now) (a .write .now) (a .trace .now)) (a .used) (after-decide .decide .ensures) (after-next .next .given .1) (lent .ready .accepted) (mine .0 .inside), mine .1)))
+    (omega (arith, start .pre .0, decided-less (after-decide .decide .ensures), weight-most (a .file .now) (after-next .next .given .0 .0) (after-decide .decide .result .left)), (lent, (way-child (a .file .now) (a .ctx .now) (a .user) (a .above) (a .n) (mine .2) (store (a .amounts .now) (a .presence .now) (a .labels .now) (a .read .now) (a .write .now) (a .trace .now)) (a .used) (after-decide .decide .ensures) (after-next .next .given .1) (lent .ready .runnable) (mine .0 .inside), mine .1)))
 
 pub branch-passed-requires : (t : ℕ) → branch-lts.Need-passed-requires (branch-cs t) (branch-at t) branch.Post
 branch-passed-requires t c κs = tt
@@ -60,7 +60,7 @@ branch-returns-2 t c =
     let after-exec = c .before .before .before in
     let after-next = after-exec .before .before .before .before .before .before .before .before .before .before .before .before in
     let after-decide = after-next .before .before in
-    let start = after-decide .before .before .before .before .before .before .before .before in
+    let start = after-decide .before .before .before .before .before .before .before in
     let a = start .args in
     let mine = start .pre .1 .1 in
     answers (c .passed .ensures) (branch-goes (a .file .now) (a .ctx .now) (a .user) (a .above) (a .n) (mine .2) (store (a .amounts .now) (a .presence .now) (a .labels .now) (a .read .now) (a .write .now) (a .trace .now)) (a .used) (after-decide .decide .ensures) (after-next .next .given .1) (after-exec .exec .ensures))

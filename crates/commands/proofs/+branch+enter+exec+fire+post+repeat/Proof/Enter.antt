@@ -12,7 +12,7 @@ use Rattle.commands.proofs.+branch+enter+exec+fire+post+repeat.Proof.Co
 
 pub enter-mul-kind : (t : ℕ) → enter-lts.Need-mul-kind (enter-cs t) (enter-at t) enter.Post
 enter-mul-kind t c =
-    let start = c .before .before in
+    let start = c .before in
     let lent = start .pre .1 .0 in
     let mine = start .pre .1 .1 in
     let node = command-read (lent .ready) (mine .0) in
@@ -20,15 +20,15 @@ enter-mul-kind t c =
 
 pub enter-add-kind : (t : ℕ) → enter-lts.Need-add-kind (enter-cs t) (enter-at t) enter.Post
 enter-add-kind t c =
-    let start = c .before .before in
+    let start = c .before in
     let lent = start .pre .1 .0 in
     let mine = start .pre .1 .1 in
     let node = command-read (lent .ready) (mine .0) in
     omega (arith, node .end, node .short)
 
-pub enter-shared-slice-read-kind : (t : ℕ) → enter-lts.Need-shared-slice-read-kind (enter-cs t) (enter-at t) enter.Post
-enter-shared-slice-read-kind t c =
-    let start = c .before .before .before in
+pub enter-element-copy-out-kind : (t : ℕ) → enter-lts.Need-element-copy-out-kind (enter-cs t) (enter-at t) enter.Post
+enter-element-copy-out-kind t c =
+    let start = c .before in
     let lent = start .pre .1 .0 in
     let mine = start .pre .1 .1 in
     let node = command-read (lent .ready) (mine .0) in
@@ -37,7 +37,7 @@ enter-shared-slice-read-kind t c =
 pub enter-exec-requires : (t : ℕ) → enter-lts.Need-exec-requires (enter-cs t) (enter-at t) enter.Post
 enter-exec-requires t c κs =
     let after-if1 = c .before .before .before .before .before .before .before .before in
-    let start = after-if1 .before .before .before .before in
+    let start = after-if1 .before .before .before in
     let a = start .args in
     let lent = start .pre .1 .0 in
     let mine = start .pre .1 .1 in
@@ -59,30 +59,30 @@ enter-returns t c =
 
 pub enter-cast-cost : (t : ℕ) → enter-lts.Need-cast-cost (enter-cs t) (enter-at t) enter.Post
 enter-cast-cost t c =
-    let start = c .before .before .before .before in
+    let start = c .before .before .before in
     let a = start .args in
     let lent = start .pre .1 .0 in
     let mine = start .pre .1 .1 in
     let node = command-read (lent .ready) (mine .0) in
-    omega (arith, node .kind, kind-below (a .file .now) (lent .ready .accepted) (a .n) (mine .0 .inside))
+    omega (arith, node .kind, kind-below (a .file .now) (lent .ready .runnable) (a .n) (mine .0 .inside))
 
 pub enter-mul-cost : (t : ℕ) → enter-lts.Need-mul-cost (enter-cs t) (enter-at t) enter.Post
 enter-mul-cost t c =
-    let start = c .before .before .before .before in
+    let start = c .before .before .before in
     let a = start .args in
     let lent = start .pre .1 .0 in
     let mine = start .pre .1 .1 in
     let node = command-read (lent .ready) (mine .0) in
-    omega (arith, node .kind, kind-below (a .file .now) (lent .ready .accepted) (a .n) (mine .0 .inside))
+    omega (arith, node .kind, kind-below (a .file .now) (lent .ready .runnable) (a .n) (mine .0 .inside))
 
 pub enter-element-copy-out-cost : (t : ℕ) → enter-lts.Need-element-copy-out-cost (enter-cs t) (enter-at t) enter.Post
 enter-element-copy-out-cost t c =
-    let start = c .before .before .before .before in
+    let start = c .before .before .before in
     let a = start .args in
     let lent = start .pre .1 .0 in
     let mine = start .pre .1 .1 in
     let node = command-read (lent .ready) (mine .0) in
-    omega (arith, node .kind, kind-below (a .file .now) (lent .ready .accepted) (a .n) (mine .0 .inside))
+    omega (arith, node .kind, kind-below (a .file .now) (lent .ready .runnable) (a .n) (mine .0 .inside))
 
 pub enter-stopped-requires : (t : ℕ) → enter-lts.Need-stopped-requires (enter-cs t) (enter-at t) enter.Post
 enter-stopped-requires t c κs = tt
@@ -90,7 +90,7 @@ enter-stopped-requires t c κs = tt
 pub enter-returns-2 : (t : ℕ) → enter-lts.Need-returns-2 (enter-cs t) (enter-at t) enter.Post
 enter-returns-2 t c =
     let after-if2 = c .before in
-    let start = after-if2 .before .before .before .before .before .before in
+    let start = after-if2 .before .before .before .before .before in
     let a = start .args in
     let lent = start .pre .1 .0 in
     let mine = start .pre .1 .1 in
@@ -102,7 +102,7 @@ pub enter-branch-requires : (t : ℕ) → enter-lts.Need-branch-requires (enter-
 enter-branch-requires t c κs =
     let after-match = c .before .before .before .before .before .before .before .before in
     let after-if2 = after-match .before in
-    let start = after-if2 .before .before .before .before .before .before in
+    let start = after-if2 .before .before .before .before .before in
     let a = start .args in
     let lent = start .pre .1 .0 in
     let mine = start .pre .1 .1 in
@@ -114,7 +114,7 @@ pub enter-repeat-requires : (t : ℕ) → enter-lts.Need-repeat-requires (enter-
 enter-repeat-requires t c κs =
     let after-match = c .before .before .before .before .before .before .before .before in
     let after-if2 = after-match .before in
-    let start = after-if2 .before .before .before .before .before .before in
+    let start = after-if2 .before .before .before .before .before in
     let a = start .args in
     let lent = start .pre .1 .0 in
     let mine = start .pre .1 .1 in
@@ -126,7 +126,7 @@ pub enter-post-requires : (t : ℕ) → enter-lts.Need-post-requires (enter-cs t
 enter-post-requires t c κs =
     let after-match = c .before .before .before .before .before .before .before .before in
     let after-if2 = after-match .before in
-    let start = after-if2 .before .before .before .before .before .before in
+    let start = after-if2 .before .before .before .before .before in
     let a = start .args in
     let lent = start .pre .1 .0 in
     let mine = start .pre .1 .1 in
@@ -138,7 +138,7 @@ pub enter-post-requires-2 : (t : ℕ) → enter-lts.Need-post-requires-2 (enter-
 enter-post-requires-2 t c κs =
     let after-match = c .before .before .before .before .before .before .before .before in
     let after-if2 = after-match .before in
-    let start = after-if2 .before .before .before .before .before .before in
+    let start = after-if2 .before .before .before .before .before in
     let a = start .args in
     let lent = start .pre .1 .0 in
     let mine = start .pre .1 .1 in
@@ -150,7 +150,7 @@ pub enter-act-requires : (t : ℕ) → enter-lts.Need-act-requires (enter-cs t) 
 enter-act-requires t c κs =
     let after-match = c .before .before .before .before .before .before .before .before in
     let after-if1 = after-match .before .before .before in
-    let start = after-if1 .before .before .before .before in
+    let start = after-if1 .before .before .before in
     let lent = start .pre .1 .0 in
     let mine = start .pre .1 .1 in
     let node = command-read (lent .ready) (mine .0) in
@@ -165,7 +165,7 @@ pub enter-returns-3 : (t : ℕ) → enter-lts.Need-returns-3 (enter-cs t) (enter
 enter-returns-3 t c =
     let after-branch = c .before .before in
     let after-if2 = after-branch .before .before .before .before .before .before .before .before .before .before in
-    let start = after-if2 .before .before .before .before .before .before in
+    let start = after-if2 .before .before .before .before .before in
     let a = start .args in
     let lent = start .pre .1 .0 in
     let mine = start .pre .1 .1 in
@@ -182,7 +182,7 @@ pub enter-returns-4 : (t : ℕ) → enter-lts.Need-returns-4 (enter-cs t) (enter
 enter-returns-4 t c =
     let after-repeat = c .before .before in
     let after-if2 = after-repeat .before .before .before .before .before .before .before .before .before .before in
-    let start = after-if2 .before .before .before .before .before .before in
+    let start = after-if2 .before .before .before .before .before in
     let a = start .args in
     let lent = start .pre .1 .0 in
     let mine = start .pre .1 .1 in
@@ -199,7 +199,7 @@ pub enter-returns-5 : (t : ℕ) → enter-lts.Need-returns-5 (enter-cs t) (enter
 enter-returns-5 t c =
     let after-post = c .before .before in
     let after-if2 = after-post .before .before .before .before .before .before .before .before .before .before in
-    let start = after-if2 .before .before .before .before .before .before in
+    let start = after-if2 .before .before .before .before .before in
     let a = start .args in
     let lent = start .pre .1 .0 in
     let mine = start .pre .1 .1 in
@@ -216,7 +216,7 @@ pub enter-returns-6 : (t : ℕ) → enter-lts.Need-returns-6 (enter-cs t) (enter
 enter-returns-6 t c =
     let after-post2 = c .before .before in
     let after-if2 = after-post2 .before .before .before .before .before .before .before .before .before .before in
-    let start = after-if2 .before .before .before .before .before .before in
+    let start = after-if2 .before .before .before .before .before in
     let a = start .args in
     let lent = start .pre .1 .0 in
     let mine = start .pre .1 .1 in
@@ -233,7 +233,7 @@ pub enter-returns-7 : (t : ℕ) → enter-lts.Need-returns-7 (enter-cs t) (enter
 enter-returns-7 t c =
     let after-act = c .before .before in
     let after-if2 = after-act .before .before .before .before .before .before .before .before .before .before in
-    let start = after-if2 .before .before .before .before .before .before in
+    let start = after-if2 .before .before .before .before .before in
     let a = start .args in
     let lent = start .pre .1 .0 in
     let mine = start .pre .1 .1 in

@@ -13,14 +13,14 @@ use Rattle.commands.proofs.+branch+enter+exec+fire+post+repeat.Proof.Co
 
 pub exec-loop-holds : (t : ℕ) → exec-lts.Need-loop-holds (exec-cs t) (exec-at t) exec.Post exec-Inv-loop exec-μ-loop
 exec-loop-holds t c =
-    let start = c .before .before in
+    let start = c .before in
     let lent = start .pre .1 .0 in
     let mine = start .pre .1 .1 in
     record { node = mine .0; ends = λ d. d; same = refl; fits = lent .room; within = omega arith }
 
 pub exec-head-of-requires : (t : ℕ) → exec-lts.Need-head-of-requires (exec-cs t) (exec-at t) exec.Post exec-Inv-loop exec-μ-loop
 exec-head-of-requires t c κs =
-    let start = c .before .before .before in
+    let start = c .before .before in
     let lent = start .pre .1 .0 in
     let chain = c .loop .inv in
     (lent .ready, chain .node)
@@ -39,7 +39,7 @@ exec-returns t c =
     let after-if1 = c .before in
     let after-head-of = after-if1 .before .before in
     let after-loop = after-head-of .before in
-    let start = after-loop .before .before .before in
+    let start = after-loop .before .before in
     let a = start .args in
     let lent = start .pre .1 .0 in
     let chain = after-loop .loop .inv in
@@ -50,7 +50,7 @@ exec-enter-requires t c κs =
     let after-if1 = c .before .before .before .before .before .before .before .before in
     let after-head-of = after-if1 .before .before in
     let after-loop = after-head-of .before in
-    let start = after-loop .before .before .before in
+    let start = after-loop .before .before in
     let a = start .args in
     let lent = start .pre .1 .0 in
     let mine = start .pre .1 .1 in
@@ -80,7 +80,7 @@ exec-returns-2 t c =
     let after-if1 = after-enter .before .before .before .before .before .before .before .before .before in
     let after-head-of = after-if1 .before .before in
     let after-loop = after-head-of .before in
-    let start = after-loop .before .before .before in
+    let start = after-loop .before .before in
     let a = start .args in
     let lent = start .pre .1 .0 in
     let chain = after-loop .loop .inv in
@@ -103,7 +103,7 @@ exec-returns-3 t c =
     let after-enter = after-enum-told .before .before .before .before in
     let after-head-of = after-enter .before .before .before .before .before .before .before .before .before .before .before in
     let after-loop = after-head-of .before in
-    let start = after-loop .before .before .before in
+    let start = after-loop .before .before in
     let a = start .args in
     let lent = start .pre .1 .0 in
     let chain = after-loop .loop .inv in
@@ -112,8 +112,8 @@ exec-returns-3 t c =
 
 pub exec-mul-u16-at : (t : ℕ) → exec-lts.Need-mul-u16-at (exec-cs t) (exec-at t) exec.Post exec-Inv-loop exec-μ-loop
 exec-mul-u16-at t c =
-    let after-loop = c .before .before .before .before .before .before .before .before .before .before .before .before .before .before .before .before .before .before in
-    let start = after-loop .before .before .before in
+    let after-loop = c .before .before .before .before .before .before .before .before .before .before .before .before .before .before .before .before .before .before .before in
+    let start = after-loop .before .before in
     let lent = start .pre .1 .0 in
     let chain = after-loop .loop .inv in
     let node = command-read (lent .ready) (chain .node) in
@@ -121,8 +121,8 @@ exec-mul-u16-at t c =
 
 pub exec-add-u16-at : (t : ℕ) → exec-lts.Need-add-u16-at (exec-cs t) (exec-at t) exec.Post exec-Inv-loop exec-μ-loop
 exec-add-u16-at t c =
-    let after-loop = c .before .before .before .before .before .before .before .before .before .before .before .before .before .before .before .before .before .before in
-    let start = after-loop .before .before .before in
+    let after-loop = c .before .before .before .before .before .before .before .before .before .before .before .before .before .before .before .before .before .before .before in
+    let start = after-loop .before .before in
     let lent = start .pre .1 .0 in
     let chain = after-loop .loop .inv in
     let node = command-read (lent .ready) (chain .node) in
@@ -130,8 +130,8 @@ exec-add-u16-at t c =
 
 pub exec-add-u16-at-2 : (t : ℕ) → exec-lts.Need-add-u16-at-2 (exec-cs t) (exec-at t) exec.Post exec-Inv-loop exec-μ-loop
 exec-add-u16-at-2 t c =
-    let after-loop = c .before .before .before .before .before .before .before .before .before .before .before .before .before .before .before .before .before .before in
-    let start = after-loop .before .before .before in
+    let after-loop = c .before .before .before .before .before .before .before .before .before .before .before .before .before .before .before .before .before .before .before in
+    let start = after-loop .before .before in
     let lent = start .pre .1 .0 in
     let chain = after-loop .loop .inv in
     let node = command-read (lent .ready) (chain .node) in
@@ -139,8 +139,8 @@ exec-add-u16-at-2 t c =
 
 pub exec-u16-at-requires : (t : ℕ) → exec-lts.Need-u16-at-requires (exec-cs t) (exec-at t) exec.Post exec-Inv-loop exec-μ-loop
 exec-u16-at-requires t c κs =
-    let after-loop = c .before .before .before .before .before .before .before .before .before .before .before .before .before .before .before .before .before .before in
-    let start = after-loop .before .before .before in
+    let after-loop = c .before .before .before .before .before .before .before .before .before .before .before .before .before .before .before .before .before .before .before in
+    let start = after-loop .before .before in
     let lent = start .pre .1 .0 in
     let chain = after-loop .loop .inv in
     let node = command-read (lent .ready) (chain .node) in
@@ -148,12 +148,12 @@ exec-u16-at-requires t c κs =
 
 pub exec-loop-less : (t : ℕ) → exec-lts.Need-loop-less (exec-cs t) (exec-at t) exec.Post exec-Inv-loop exec-μ-loop
 exec-loop-less t c =
-    let after-if2 = c .before in
+    let after-if2 = c .before .before in
     let after-enter = after-if2 .before .before .before .before .before .before in
     let after-if1 = after-enter .before .before .before .before .before .before .before .before .before in
     let after-head-of = after-if1 .before .before in
     let after-loop = after-head-of .before in
-    let start = after-loop .before .before .before in
+    let start = after-loop .before .before in
     let a = start .args in
     let lent = start .pre .1 .0 in
     let chain = after-loop .loop .inv in
@@ -161,13 +161,13 @@ exec-loop-less t c =
 
 pub exec-loop-again : (t : ℕ) → exec-lts.Need-loop-again (exec-cs t) (exec-at t) exec.Post exec-Inv-loop exec-μ-loop
 exec-loop-again t c =
-    let after-if2 = c .before in
+    let after-if2 = c .before .before in
     let after-enum-told = after-if2 .before .before in
     let after-enter = after-enum-told .before .before .before .before in
     let after-if1 = after-enter .before .before .before .before .before .before .before .before .before in
     let after-head-of = after-if1 .before .before in
     let after-loop = after-head-of .before in
-    let start = after-loop .before .before .before in
+    let start = after-loop .before .before in
     let a = start .args in
     let lent = start .pre .1 .0 in
     let chain = after-loop .loop .inv in

@@ -4,7 +4,6 @@ use mathlib.Core.Path.{refl, sym, _∙_}
 use Prim.Native.Nat.{ℕ, _-_}
 use mir.Facts.{toZ-ofZ}
 use Rattle.book.specs.Layout.{count}
-use Rattle.book.proofs.Accepted.{placed}
 use Rattle.monitor.specs.Rules.{trigger-vars}
 use Rattle.machine.specs.Store.{cell}
 use Rattle.machine.specs.Writes.{key-of}
@@ -18,9 +17,9 @@ use Rattle.commands.proofs.+branch+enter+exec+fire+post+repeat.Proof.Co
 
 pub fire-next-fitting-requires : (t : ℕ) → fire-lts.Need-next-fitting-requires (fire-cs t) (fire-at t) fire.Post
 fire-next-fitting-requires t c κs =
-    let start = c .before .before in
+    let start = c .before in
     let lent = start .pre .1 .0 in
-    (lent .ready .accepted, start .pre .1 .1)
+    (lent .ready .runnable, start .pre .1 .1)
 
 pub fire-enum-known-next : (t : ℕ) → fire-lts.Need-enum-known-next (fire-cs t) (fire-at t) fire.Post
 fire-enum-known-next t c = c .match .keys1
@@ -35,7 +34,7 @@ pub fire-returns : (t : ℕ) → fire-lts.Need-returns (fire-cs t) (fire-at t) f
 fire-returns t c =
     let after-enum-told = c .before in
     let after-next-fitting = after-enum-told .before .before in
-    let start = after-next-fitting .before .before .before in
+    let start = after-next-fitting .before .before in
     let a = start .args in
     let lent = start .pre .1 .0 in
     none-left (a .file .now) (a .ctx .now) (a .event) (a .place) (key-of (a .owner) (a .line)) (record { val = cell (a .event) (a .amount); lab = a .label .now }) (a .t) (count (a .file .now) 5 - a .t) refl (sym (after-next-fitting .next-fitting .ensures) ∙ after-enum-told .enum-told .given .1) (c .finished .ensures) (lent .room)
@@ -47,23 +46,23 @@ pub fire-add-above : (t : ℕ) → fire-lts.Need-add-above (fire-cs t) (fire-at 
 fire-add-above t c =
     let after-next = c .before .before .before .before in
     let after-next-fitting = after-next .before .before in
-    let start = after-next-fitting .before .before .before in
+    let start = after-next-fitting .before .before in
     let a = start .args in
     let lent = start .pre .1 .0 in
     let first = found (a .file .now) (a .ctx .now) (a .event) (a .place) (key-of (a .owner) (a .line)) (record { val = cell (a .event) (a .amount); lab = a .label .now }) (count (a .file .now) 5 - a .t) (a .t) refl (sym (after-next-fitting .next-fitting .ensures) ∙ after-next .next .given .1) in
-    let sited = placed (a .file .now) (lent .ready .accepted) in
+    let sited = lent .ready .runnable in
     omega (arith, first .below, sited .few-triggers)
 
 pub fire-exec-requires : (t : ℕ) → fire-lts.Need-exec-requires (fire-cs t) (fire-at t) fire.Post
 fire-exec-requires t c κs =
     let after-next = c .before .before .before .before .before .before .before .before .before .before .before .before in
     let after-next-fitting = after-next .before .before in
-    let start = after-next-fitting .before .before .before in
+    let start = after-next-fitting .before .before in
     let a = start .args in
     let lent = start .pre .1 .0 in
     let first = found (a .file .now) (a .ctx .now) (a .event) (a .place) (key-of (a .owner) (a .line)) (record { val = cell (a .event) (a .amount); lab = a .label .now }) (count (a .file .now) 5 - a .t) (a .t) refl (sym (after-next-fitting .next-fitting .ensures) ∙ after-next .next .given .1) in
-    let sited = placed (a .file .now) (lent .ready .accepted) in
-    (omega (arith, start .pre .0, weight-most (a .file .now) (after-next .next .given .0 .1 .1 .0) (a .left)), (lent, trigger-runs (a .file .now) _ (lent .ready .accepted) (first .below) (first .user-is) (first .body-is)))
+    let sited = lent .ready .runnable in
+    (omega (arith, start .pre .0, weight-most (a .file .now) (after-next .next .given .0 .1 .1 .0) (a .left)), (lent, trigger-runs (a .file .now) _ (lent .ready .runnable) (first .below) (first .user-is) (first .body-is)))
 
 pub fire-enum-told-2 : (t : ℕ) → fire-lts.Need-enum-told-2 (fire-cs t) (fire-at t) fire.Post
 fire-enum-told-2 t c = c .match2 .keys1
@@ -86,7 +85,7 @@ fire-returns-2 t c =
     let after-variables = after-exec .before .before .before .before .before .before .before .before .before .before .before in
     let after-next = after-variables .before .before in
     let after-next-fitting = after-next .before .before in
-    let start = after-next-fitting .before .before .before in
+    let start = after-next-fitting .before .before in
     let a = start .args in
     let lent = start .pre .1 .0 in
     let first = found (a .file .now) (a .ctx .now) (a .event) (a .place) (key-of (a .owner) (a .line)) (record { val = cell (a .event) (a .amount); lab = a .label .now }) (count (a .file .now) 5 - a .t) (a .t) refl (sym (after-next-fitting .next-fitting .ensures) ∙ after-next .next .given .1) in
@@ -100,11 +99,11 @@ fire-fire-requires t c κs =
     let after-exec = c .before .before .before .before .before .before .before .before .before .before in
     let after-next = after-exec .before .before .before .before .before .before .before .before .before .before .before .before .before in
     let after-next-fitting = after-next .before .before in
-    let start = after-next-fitting .before .before .before in
+    let start = after-next-fitting .before .before in
     let a = start .args in
     let lent = start .pre .1 .0 in
     let first = found (a .file .now) (a .ctx .now) (a .event) (a .place) (key-of (a .owner) (a .line)) (record { val = cell (a .event) (a .amount); lab = a .label .now }) (count (a .file .now) 5 - a .t) (a .t) refl (sym (after-next-fitting .next-fitting .ensures) ∙ after-next .next .given .1) in
-    let sited = placed (a .file .now) (lent .ready .accepted) in
+    let sited = lent .ready .runnable in
     (omega (arith, start .pre .0, after-exec .exec .ensures .within, first .from, first .below, sited .few-triggers), (lent-after lent (after-exec .exec .kept .1 .1 .1 .1 .1 .1 .1 .1 .1 .1 .1 .1 .1 .1 .1 .1 .0) (after-exec .exec .ensures .fits), start .pre .1 .1))
 
 pub fire-passed-requires-2 : (t : ℕ) → fire-lts.Need-passed-requires-2 (fire-cs t) (fire-at t) fire.Post
@@ -124,7 +123,7 @@ fire-returns-3 t c =
     let after-variables = after-exec .before .before .before .before .before .before .before .before .before .before .before in
     let after-next = after-variables .before .before in
     let after-next-fitting = after-next .before .before in
-    let start = after-next-fitting .before .before .before in
+    let start = after-next-fitting .before .before in
     let a = start .args in
     let lent = start .pre .1 .0 in
     let first = found (a .file .now) (a .ctx .now) (a .event) (a .place) (key-of (a .owner) (a .line)) (record { val = cell (a .event) (a .amount); lab = a .label .now }) (count (a .file .now) 5 - a .t) (a .t) refl (sym (after-next-fitting .next-fitting .ensures) ∙ after-next .next .given .1) in

@@ -13,7 +13,7 @@ use Rattle.commands.proofs.+branch+enter+exec+fire+post+repeat.Proof.Co
 
 pub post-post-requires : (t : ℕ) → post-lts.Need-post-requires (post-cs t) (post-at t) post.Post
 post-post-requires t c κs =
-    let start = c .before .before .before .before .before .before .before .before in
+    let start = c .before .before .before .before .before .before .before in
     let lent = start .pre .1 .0 in
     let mine = start .pre .1 .1 in
     (lent .ready, (mine .0, mine .1, mine .2, mine .3, mine .4))
@@ -31,7 +31,7 @@ pub post-fire-requires : (t : ℕ) → post-lts.Need-fire-requires (post-cs t) (
 post-fire-requires t c κs =
     let after-posted2 = c .before .before .before .before .before .before .before .before .before .before .before .before in
     let after-post = after-posted2 .before .before .before .before in
-    let start = after-post .before .before .before .before .before .before .before .before .before in
+    let start = after-post .before .before .before .before .before .before .before .before in
     let lent = start .pre .1 .0 in
     (omega (arith, start .pre .0, after-post .post .ensures .within), (lent-after lent refl (lent .room), after-post .post .ensures .inside _ (after-posted2 .posted2 .given .1)))
 
@@ -39,7 +39,7 @@ pub post-returns : (t : ℕ) → post-lts.Need-returns (post-cs t) (post-at t) p
 post-returns t c =
     let after-posted = c .before .before in
     let after-post = after-posted .before .before .before .before in
-    let start = after-post .before .before .before .before .before .before .before .before .before in
+    let start = after-post .before .before .before .before .before .before .before .before in
     let a = start .args in
     let lent = start .pre .1 .0 in
     answers (c .stopped .ensures) (after-post .post .ensures .stops _ _ (after-posted .posted .given .1) (a .above) (a .read .now) (a .trace .now) (a .used) (lent .room))
@@ -57,7 +57,7 @@ post-returns-2 t c =
     let after-struct-told = after-struct-told2 .before in
     let after-posted2 = after-struct-told .before .before .before .before .before .before .before .before .before .before in
     let after-post = after-posted2 .before .before .before .before in
-    let start = after-post .before .before .before .before .before .before .before .before .before in
+    let start = after-post .before .before .before .before .before .before .before .before in
     let a = start .args in
     let lent = start .pre .1 .0 in
     let owner = toZ-ofZ {w = w32} {z = after-post .post .result .owner} (record { sfits = after-struct-told .struct-told .given .1 .1 .0 .1 }) in

@@ -16,7 +16,7 @@ use Rattle.commands.proofs.+branch+enter+exec+fire+post+repeat.Proof.Co
 
 pub repeat-loop-holds : (t : ℕ) → repeat-lts.Need-loop-holds (repeat-cs t) (repeat-at t) repeat.Post repeat-Inv-loop repeat-μ-loop
 repeat-loop-holds t c =
-    let start = c .before .before .before in
+    let start = c .before .before in
     let a = start .args in
     let lent = start .pre .1 .0 in
     record { turned = unturned (a .file .now) (a .user) (a .above) (a .n) (a .ctx .now) (vars-of (a .vars .now) (a .tags .now)) (store (a .amounts .now) (a .presence .now) (a .labels .now) (a .read .now) (a .write .now) (a .trace .now)) (a .left) (a .used) (lent .room) }
@@ -24,7 +24,7 @@ repeat-loop-holds t c =
 pub repeat-decide-requires : (t : ℕ) → repeat-lts.Need-decide-requires (repeat-cs t) (repeat-at t) repeat.Post repeat-Inv-loop repeat-μ-loop
 repeat-decide-requires t c κs =
     let after-loop = c .before .before .before .before .before .before in
-    let start = after-loop .before .before .before .before in
+    let start = after-loop .before .before .before in
     let lent = start .pre .1 .0 in
     let mine = start .pre .1 .1 in
     let now = after-loop .loop in
@@ -43,7 +43,7 @@ repeat-ended-requires t c κs = tt
 pub repeat-same-length : (t : ℕ) → repeat-lts.Need-same-length (repeat-cs t) (repeat-at t) repeat.Post repeat-Inv-loop repeat-μ-loop
 repeat-same-length t c =
     let after-loop = c .before .before .before .before .before .before .before .before .before .before in
-    let start = after-loop .before .before .before .before in
+    let start = after-loop .before .before .before in
     let a = start .args in
     let now = after-loop .loop in
     let turning = now .inv in
@@ -54,7 +54,7 @@ repeat-returns t c =
     let after-enum-told = c .before in
     let after-decide = after-enum-told .before .before in
     let after-loop = after-decide .before .before .before .before .before .before .before in
-    let start = after-loop .before .before .before .before in
+    let start = after-loop .before .before .before in
     let a = start .args in
     let mine = start .pre .1 .1 in
     let now = after-loop .loop in
@@ -66,13 +66,13 @@ repeat-exec-requires t c κs =
     let after-next = c .before .before .before .before .before .before .before .before .before .before .before in
     let after-decide = after-next .before .before in
     let after-loop = after-decide .before .before .before .before .before .before .before in
-    let start = after-loop .before .before .before .before in
+    let start = after-loop .before .before .before in
     let a = start .args in
     let lent = start .pre .1 .0 in
     let mine = start .pre .1 .1 in
     let now = after-loop .loop in
     let turning = now .inv in
-    (omega (arith, start .pre .0, decided-less (after-decide .decide .ensures), turning .turned .within, weight-most (a .file .now) (after-next .next .given .0 .0) (after-decide .decide .result .left)), (lent-after lent (turned-trace (a .file .now) (a .user) (a .above) (a .n) (turning .turned)) (turning .turned .fits), (child-node (body-is (a .file .now) (a .user) (a .above) (a .n) (mine .2) (now .inner) (store (now .amounts) (now .presence) (now .labels) (now .read) (now .write) (now .trace)) (now .written) (after-decide .decide .ensures) (after-next .next .given .1)) (while-b (a .file .now) (lent .ready .accepted) (a .n) (mine .0 .inside) (mine .2)), mine .1)))
+    (omega (arith, start .pre .0, decided-less (after-decide .decide .ensures), turning .turned .within, weight-most (a .file .now) (after-next .next .given .0 .0) (after-decide .decide .result .left)), (lent-after lent (turned-trace (a .file .now) (a .user) (a .above) (a .n) (turning .turned)) (turning .turned .fits), (child-node (body-is (a .file .now) (a .user) (a .above) (a .n) (mine .2) (now .inner) (store (now .amounts) (now .presence) (now .labels) (now .read) (now .write) (now .trace)) (now .written) (after-decide .decide .ensures) (after-next .next .given .1)) (while-b (a .file .now) (lent .ready .runnable) (a .n) (mine .0 .inside) (mine .2)), mine .1)))
 
 pub repeat-pay-requires : (t : ℕ) → repeat-lts.Need-pay-requires (repeat-cs t) (repeat-at t) repeat.Post repeat-Inv-loop repeat-μ-loop
 repeat-pay-requires t c κs = tt
@@ -90,7 +90,7 @@ pub repeat-same-length-2 : (t : ℕ) → repeat-lts.Need-same-length-2 (repeat-c
 repeat-same-length-2 t c =
     let after-exec = c .before .before .before .before .before .before in
     let after-loop = after-exec .before .before .before .before .before .before .before .before .before .before .before .before .before .before .before .before .before .before .before .before .before in
-    let start = after-loop .before .before .before .before in
+    let start = after-loop .before .before .before in
     let a = start .args in
     let now = after-loop .loop in
     let turning = now .inv in
@@ -104,7 +104,7 @@ repeat-returns-2 t c =
     let after-next = after-exec .before .before .before .before .before .before .before .before .before .before .before .before in
     let after-decide = after-next .before .before in
     let after-loop = after-decide .before .before .before .before .before .before .before in
-    let start = after-loop .before .before .before .before in
+    let start = after-loop .before .before .before in
     let a = start .args in
     let lent = start .pre .1 .0 in
     let mine = start .pre .1 .1 in
@@ -120,7 +120,7 @@ repeat-loop-less t c =
     let after-next = after-exec .before .before .before .before .before .before .before .before .before .before .before .before in
     let after-decide = after-next .before .before in
     let after-loop = after-decide .before .before .before .before .before .before .before in
-    let start = after-loop .before .before .before .before in
+    let start = after-loop .before .before .before in
     let a = start .args in
     let lent = start .pre .1 .0 in
     let mine = start .pre .1 .1 in
@@ -136,7 +136,7 @@ repeat-loop-again t c =
     let after-next = after-exec .before .before .before .before .before .before .before .before .before .before .before .before in
     let after-decide = after-next .before .before in
     let after-loop = after-decide .before .before .before .before .before .before .before in
-    let start = after-loop .before .before .before .before in
+    let start = after-loop .before .before .before in
     let a = start .args in
     let lent = start .pre .1 .0 in
     let mine = start .pre .1 .1 in

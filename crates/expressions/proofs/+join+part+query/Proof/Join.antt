@@ -59,68 +59,68 @@ module _ (t : ℕ) where
   abbrev kind-of : Start → ℕ
   kind-of o = node-at (decode (o .args .file .now)) (o .args .n) .kind
 
-  is-pair : (c : join-lts.Else3 (join-cs t) (join-at t) join.Post) → between 3 6 (kind-of (c .before .before .before .before .before .before)) ≡ true
+  is-pair : (c : join-lts.Else3 (join-cs t) (join-at t) join.Post) → between 3 6 (kind-of (c .before .before .before .before .before)) ≡ true
   is-pair c =
-      let o = c .before .before .before .before .before .before in
+      let o = c .before .before .before .before .before in
       let r = record-of o in
       pair-kind (kind-of o) (omega (arith, c .before .before .before .if1 .left, r .kind)) (omega (arith, c .if3 .left, r .kind))
 
   pub mul-at : join-lts.Need-mul-at (join-cs t) (join-at t) join.Post
   mul-at c =
-      let r = record-of (c .before) in
+      let r = record-of (c) in
       record { fits = omega (arith, r .end, r .short) }
 
   pub add-at : join-lts.Need-add-at (join-cs t) (join-at t) join.Post
   add-at c =
-      let r = record-of (c .before) in
+      let r = record-of (c) in
       record { fits = omega (arith, r .end, r .short) }
 
-  pub shared-slice-read-kind : join-lts.Need-shared-slice-read-kind (join-cs t) (join-at t) join.Post
-  shared-slice-read-kind c =
-      let r = record-of (c .before .before) in
-      omega (arith, r .end)
+  pub element-copy-out-kind : join-lts.Need-element-copy-out-kind (join-cs t) (join-at t) join.Post
+  element-copy-out-kind c =
+      let r = record-of (c) in
+      omega (arith, r .end, r .short)
 
   pub leaf-requires : join-lts.Need-leaf-requires (join-cs t) (join-at t) join.Post
   leaf-requires c κs =
-      let o = c .before .before .before .before in
+      let o = c .before .before .before in
       (ready o, node o, omega (arith, c .before .if1 .taken, record-of o .kind))
 
   pub returns : join-lts.Need-returns (join-cs t) (join-at t) join.Post
-  returns c = c .leaf .ensures (cells (c .before .before .before .before .before))
+  returns c = c .leaf .ensures (cells (c .before .before .before .before))
 
   pub cast-own : join-lts.Need-cast-own (join-cs t) (join-at t) join.Post
   cast-own c =
-      let o = c .before .before .before in
+      let o = c .before .before in
       let kind = kind-inside (ready o) (node o) in
       record { fits = omega (arith, kind) }
 
   pub mul-own : join-lts.Need-mul-own (join-cs t) (join-at t) join.Post
   mul-own c =
-      let o = c .before .before .before in
+      let o = c .before .before in
       let kind = kind-inside (ready o) (node o) in
       record { fits = omega (arith, kind) }
 
   pub element-copy-out-own : join-lts.Need-element-copy-out-own (join-cs t) (join-at t) join.Post
   element-copy-out-own c =
-      let o = c .before .before .before in
+      let o = c .before .before in
       kind-inside (ready o) (node o)
 
   pub returns-2 : join-lts.Need-returns-2 (join-cs t) (join-at t) join.Post
   returns-2 c =
-      let o = c .before .before .before .before .before in
+      let o = c .before .before .before .before in
       stops-21 (ready o) (node o) (cells o) (vars o) (o .args .left) (omega (arith, c .if2 .taken))
 
   pub query-requires : join-lts.Need-query-requires (join-cs t) (join-at t) join.Post
   query-requires c κs =
       let is = c .before in
-      let o = is .before .before .before .before .before .before in
+      let o = is .before .before .before .before .before in
       let e = query-kind _ (node o .sort-is) (omega (arith, is .if3 .taken, record-of o .kind)) in
       (omega (arith, o .pre .0), (ready o, node o, e))
 
   pub returns-3 : join-lts.Need-returns-3 (join-cs t) (join-at t) join.Post
   returns-3 c =
       let paid = c .before .before .before in
-      let o = paid .before .before .before .before .before in
+      let o = paid .before .before .before .before in
       pays (ready o) (node o) (cells o) (vars o) (o .args .left) (omega (arith, paid .if2 .left)) (c .query .ensures)
 
   pub add-u16-at : join-lts.Need-add-u16-at (join-cs t) (join-at t) join.Post
@@ -131,12 +131,12 @@ module _ (t : ℕ) where
   pub u16-at-requires : join-lts.Need-u16-at-requires (join-cs t) (join-at t) join.Post
   u16-at-requires c κs =
       let r = record-of (c .before .before .before .before .before .before) in
-      omega (arith, r .end)
+      omega (arith, r .end, r .short)
 
   pub part-requires : join-lts.Need-part-requires (join-cs t) (join-at t) join.Post
   part-requires c κs =
-      let is = c .before .before in
-      let o = is .before .before .before .before .before .before in
+      let is = c .before .before .before in
+      let o = is .before .before .before .before .before in
       let child = pair-first (ready o) (node o) (is-pair is) (c .before .u16-at .ensures .0) in
       (omega (arith, o .pre .0, child .lower), (ready o, child .node))
 
@@ -149,26 +149,26 @@ module _ (t : ℕ) where
   pub returns-4 : join-lts.Need-returns-4 (join-cs t) (join-at t) join.Post
   returns-4 c =
       let x = c .before .before in
-      let is = x .before .before .before in
-      let o = is .before .before .before .before .before .before in
+      let is = x .before .before .before .before in
+      let o = is .before .before .before .before .before in
       pays (ready o) (node o) (cells o) (vars o) (o .args .left) (omega (arith, is .before .if2 .left))
       (pair-first-stops (o .args .file .now) (o .args .n) (cells o) (vars o) _ (is-pair is)
       (x .before .before .u16-at .ensures .0 ∙ record-of o .a) (x .part .ensures) (c .enum-told .given .1))
 
   pub add-u16-at-2 : join-lts.Need-add-u16-at-2 (join-cs t) (join-at t) join.Post
   add-u16-at-2 c =
-      let r = record-of (c .before .before .before .before .before .before .before .before .before .before .before .before) in
+      let r = record-of (c .before .before .before .before .before .before .before .before .before .before .before .before .before) in
       record { fits = omega (arith, r .end, r .short) }
 
   pub u16-at-requires-2 : join-lts.Need-u16-at-requires-2 (join-cs t) (join-at t) join.Post
   u16-at-requires-2 c κs =
-      let r = record-of (c .before .before .before .before .before .before .before .before .before .before .before .before) in
-      omega (arith, r .end)
+      let r = record-of (c .before .before .before .before .before .before .before .before .before .before .before .before .before) in
+      omega (arith, r .end, r .short)
 
   pub part-requires-2 : join-lts.Need-part-requires-2 (join-cs t) (join-at t) join.Post
   part-requires-2 c κs =
-      let is = c .before .before .before .before .before .before .before .before in
-      let o = is .before .before .before .before .before .before in
+      let is = c .before .before .before .before .before .before .before .before .before .before in
+      let o = is .before .before .before .before .before in
       let child = pair-second (ready o) (node o) (is-pair is) (c .before .u16-at2 .ensures .0) in
       (omega (arith, o .pre .0, child .lower), (ready o, child .node))
 
@@ -181,10 +181,10 @@ module _ (t : ℕ) where
   pub returns-5 : join-lts.Need-returns-5 (join-cs t) (join-at t) join.Post
   returns-5 c =
       let y = c .before .before in
-      let a = y .before .before .before .before in
+      let a = y .before .before .before .before .before in
       let x = a .before .before in
-      let is = x .before .before .before in
-      let o = is .before .before .before .before .before .before in
+      let is = x .before .before .before .before in
+      let o = is .before .before .before .before .before in
       let r = record-of o in
       pays (ready o) (node o) (cells o) (vars o) (o .args .left) (omega (arith, is .before .if2 .left))
       (pair-second-stops (o .args .file .now) (o .args .n) (cells o) (vars o) _ (is-pair is)
@@ -202,13 +202,13 @@ module _ (t : ℕ) where
       let told = c .before .before in
       let b = told .before in
       let y = b .before .before in
-      let a = y .before .before .before .before in
+      let a = y .before .before .before .before .before in
       let x = a .before .before in
-      let is = x .before .before .before in
-      let o = is .before .before .before .before .before .before in
+      let is = x .before .before .before .before in
+      let o = is .before .before .before .before .before in
       let r = record-of o in
       let exact = c .before .combined in
-      let first-kept = kept w32 (a .first .given .0 .0) (y .before .before .before .known-told .given .0 .1) in
+      let first-kept = kept w32 (a .first .given .0 .0) (y .before .before .before .before .known-told .given .0 .1) in
       let second-kept = kept w32 (b .second .given .0 .0) (told .known-told2 .given .0 .1) in
       let exact-is : exact .result ≡ combine (kind-of o) (a .first .given .0 .0) (b .second .given .0 .0) = exact .ensures ∙ λ i. combine (r .kind i) (first-kept i) (second-kept i) in
       let value-is : c .ranged .result ≡ held-to-32 (exact .result) (o .args .n) = c .ranged .ensures ∙ ap (λ (z : ℤ). held-to-32 z (o .args .n)) (kept w64 (exact .result) (exact .ok)) in

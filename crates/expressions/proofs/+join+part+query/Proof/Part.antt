@@ -41,22 +41,22 @@ module _ (t : ℕ) where
 
   pub mul-if1 : part-lts.Need-mul-if1 (part-cs t) (part-at t) part.Post
   mul-if1 c =
-      let r = record-of (c .before) in
+      let r = record-of (c) in
       record { fits = omega (arith, r .end, r .short) }
 
   pub add-if1 : part-lts.Need-add-if1 (part-cs t) (part-at t) part.Post
   add-if1 c =
-      let r = record-of (c .before) in
+      let r = record-of (c) in
       record { fits = omega (arith, r .end, r .short) }
 
-  pub shared-slice-read-if1 : part-lts.Need-shared-slice-read-if1 (part-cs t) (part-at t) part.Post
-  shared-slice-read-if1 c =
-      let r = record-of (c .before .before) in
-      omega (arith, r .end)
+  pub element-copy-out-if1 : part-lts.Need-element-copy-out-if1 (part-cs t) (part-at t) part.Post
+  element-copy-out-if1 c =
+      let r = record-of (c) in
+      omega (arith, r .end, r .short)
 
   pub join-requires : part-lts.Need-join-requires (part-cs t) (part-at t) part.Post
   join-requires c κs =
-      let o = c .before .before .before .before in
+      let o = c .before .before .before in
       (omega (arith, o .pre .0), o .pre .1)
 
   pub returns : part-lts.Need-returns (part-cs t) (part-at t) part.Post
@@ -64,8 +64,8 @@ module _ (t : ℕ) where
 
   pub leaf-requires : part-lts.Need-leaf-requires (part-cs t) (part-at t) part.Post
   leaf-requires c κs =
-      let o = c .before .before .before .before in
+      let o = c .before .before .before in
       (ready o, node o, omega (arith, c .before .if1 .left, record-of o .kind))
 
   pub returns-2 : part-lts.Need-returns-2 (part-cs t) (part-at t) part.Post
-  returns-2 c = c .leaf .ensures (cells (c .before .before .before .before .before))
+  returns-2 c = c .leaf .ensures (cells (c .before .before .before .before))

@@ -69,17 +69,17 @@ module _ (t : ℕ) where
 
   pub mul-at : query-lts.Need-mul-at (query-cs t) (query-at t) query.Post Inv-loop μ-loop
   mul-at c =
-      let r = record-of (c .before) in
+      let r = record-of (c) in
       record { fits = omega (arith, r .end, r .short) }
 
   pub add-at : query-lts.Need-add-at (query-cs t) (query-at t) query.Post Inv-loop μ-loop
   add-at c =
-      let r = record-of (c .before) in
+      let r = record-of (c) in
       record { fits = omega (arith, r .end, r .short) }
 
   pub loop-holds : query-lts.Need-loop-holds (query-cs t) (query-at t) query.Post Inv-loop μ-loop
   loop-holds c =
-      let o = c .before in
+      let o = c in
       bounding-starts (o .args .file .now) (o .args .n) (cells o) (vars o) (o .args .left) (kind-is o)
 
   pub add-u16-at : query-lts.Need-add-u16-at (query-cs t) (query-at t) query.Post Inv-loop μ-loop
@@ -100,13 +100,13 @@ module _ (t : ℕ) where
   pub u16-at-requires : query-lts.Need-u16-at-requires (query-cs t) (query-at t) query.Post Inv-loop μ-loop
   u16-at-requires c κs =
       let r = record-of (c .before .before .before) in
-      omega (arith, r .end)
+      omega (arith, r .end, r .short)
 
   pub part-requires : query-lts.Need-part-requires (query-cs t) (query-at t) query.Post Inv-loop μ-loop
   part-requires c κs =
       let u16 = c .before in
       let o = u16 .before .before .before .before in
-      let child = query-bound (ready o) (node o) (kind-is o) (u16 .before .loop-test .taken) (u16 .u16-at .ensures .0) in
+      let child = query-bound (ready o) (node o) (kind-is o) (u16 .before .before .loop-test .taken) (u16 .u16-at .ensures .0) in
       (omega (arith, o .pre .0, child .lower), (ready o, child .node))
 
   pub enum-known-answer : query-lts.Need-enum-known-answer (query-cs t) (query-at t) query.Post Inv-loop μ-loop
@@ -119,8 +119,8 @@ module _ (t : ℕ) where
   returns c =
       let called = c .before .before in
       let u16 = called .before .before in
-      let turn = u16 .before in
-      let o = turn .before .before .before in
+      let turn = u16 .before .before in
+      let o = turn .before .before in
       let is = query-bound-is (ready o) (node o) (kind-is o) (turn .loop-test .taken) (u16 .u16-at .ensures .0) in
       bounding-stops (o .args .file .now) (o .args .n) (cells o) (vars o) (o .args .left) (turn .before .loop .inv) (turn .loop-test .taken) is
       (called .part .ensures) (c .enum-told .given .1)
@@ -141,17 +141,17 @@ module _ (t : ℕ) where
   loop-again c =
       let called = c .before .before .before in
       let u16 = called .before .before in
-      let turn = u16 .before in
-      let o = turn .before .before .before in
+      let turn = u16 .before .before in
+      let o = turn .before .before in
       let is = query-bound-is (ready o) (node o) (kind-is o) (turn .loop-test .taken) (u16 .u16-at .ensures .0) in
       rw (kept w32 (c .before .answer .given .0 .0) (c .known-told .given .0 .1))
       (bounding-turns (o .args .file .now) (o .args .n) (cells o) (vars o) (o .args .left) (turn .before .loop .inv) (turn .loop-test .taken) is
       (called .part .ensures) (c .before .answer .given .1))
 
-  pub shared-slice-read-query : query-lts.Need-shared-slice-read-query (query-cs t) (query-at t) query.Post Inv-loop μ-loop
-  shared-slice-read-query c =
-      let r = record-of (c .before .before .before .before) in
-      omega (arith, r .end)
+  pub element-copy-out-query : query-lts.Need-element-copy-out-query (query-cs t) (query-at t) query.Post Inv-loop μ-loop
+  element-copy-out-query c =
+      let r = record-of (c .before .before) in
+      omega (arith, r .end, r .short)
 
   pub add-byte-at : query-lts.Need-add-byte-at (query-cs t) (query-at t) query.Post Inv-loop μ-loop
   add-byte-at c =
@@ -161,7 +161,7 @@ module _ (t : ℕ) where
   pub byte-at-requires : query-lts.Need-byte-at-requires (query-cs t) (query-at t) query.Post Inv-loop μ-loop
   byte-at-requires c κs =
       let r = record-of (c .before .before .before .before) in
-      omega (arith, r .end)
+      omega (arith, r .end, r .short)
 
   pub array-copy-out-query : query-lts.Need-array-copy-out-query (query-cs t) (query-at t) query.Post Inv-loop μ-loop
   array-copy-out-query c = search needs
@@ -194,16 +194,16 @@ module _ (t : ℕ) where
       let b-read = c-read .before in
       let a-read = b-read .before in
       let p-read = a-read .before in
-      let done = p-read .before .before in
-      let o = done .before .before .before in
+      let done = p-read .before .before .before in
+      let o = done .before .before in
       let r = record-of o in
       let found = found-at .query in
       let bound = getD (done .before .loop .bounds) in
       let found-is = rw (
-        kept w32 (bound 0 (pos 0)) (a-read .query-arg .given),
-        kept w32 (bound 1 (pos 0)) (b-read .query-arg2 .given),
-        kept w32 (bound 2 (pos 0)) (c-read .query-arg3 .given),
-        kept w32 (bound 3 (pos 0)) (d-read .query-arg4 .given),
+        kept w32 (bound 0 (pos 0)) (a-read .query-arg2 .given),
+        kept w32 (bound 1 (pos 0)) (b-read .query-arg3 .given),
+        kept w32 (bound 2 (pos 0)) (c-read .query-arg4 .given),
+        kept w32 (bound 3 (pos 0)) (d-read .query-arg5 .given),
         r .kind,
         p-read .byte-at .ensures .0 ∙ r .p,
       ) at (found .ensures) in
