@@ -25,6 +25,7 @@ use Rattle.triggers.specs.declared.Fitting.the-variants as fitted
 use Rattle.triggers.specs.Search.{first-fitting}
 use Rattle.machine.proofs.Scripts.{trigger-read-at}
 use Rattle.machine.proofs.Runs.{after-none, comes-to, does-as, quietly, then-stops, then-goes, aside, own-does}
+use Rattle.commands.proofs.Steps.{same-trace}
 
 -- the same key and the same cell
 pub fires-as : (file : List ℕ) (ctx : Label) (t event place : ℕ) (label : Label)
@@ -99,10 +100,10 @@ module _ (file : List ℕ) (ctx : Label) (event place : ℕ) (key : Key) (z : La
               let up : suc t ≡ above = omega arith in
               does-as (λ fuel. (λ i s. one-fits fuel s e i) ∙ (λ i. own (sym ev i) (Enters file ctx (sym eu i) (up i) (sym eb i) fuel))) (own-does d)
 
-          pub fitting-stops : {number i : ℕ} → r .outcome ≡ Stopped number i → DoesAside (fires t) x left used r x'
+          fitting-stops : {number i : ℕ} → r .outcome ≡ Stopped number i → DoesAside (fires t) x left used r x'
           fitting-stops k = aside λ vars. does-as (λ fuel. fires-first t fuel h) (then-stops (fires (suc t)) (ran-one vars) _ _ k)
 
-          pub fitting-goes : {r' : Ran} {x'' : Store} → r .outcome ≡ Done → DoesAside (fires (t + 1)) x' (r .left) (r .used) r' x''
+          fitting-goes : {r' : Ran} {x'' : Store} → r .outcome ≡ Done → DoesAside (fires (t + 1)) x' (r .left) (r .used) r' x''
               → DoesAside (fires t) x left used r' x''
           fitting-goes k g = aside λ vars. does-as (λ fuel. fires-first t fuel h)
               (then-goes (ran-one vars) k (does-as (λ fuel. ap (λ (j : ℕ). fires j fuel) (sym (add-one t))) (g .does vars)))
@@ -184,14 +185,46 @@ module _ (file : List ℕ) (ctx : Label) (event place : ℕ) (key : Key) (z : La
       go true q later = none-not-some (sym e ∙ ap (chosen k t) q)
       go false q later = passes t fuel s (omega (arith, h)) q ∙ later (sym (ap (chosen k t) q) ∙ e)
 
-  pub none-left : (t k : ℕ) {x : Store} {left used : ℕ} {r : Ran} → k ≡ count file 5 - t → first-fitting file event place k t ≡ fitted.None
+  none-left : (t k : ℕ) {x : Store} {left used : ℕ} {r : Ran} → k ≡ count file 5 - t → first-fitting file event place k t ≡ fitted.None
       → r ≡ ran Done left used → used ≤ length (x .trace) → DoesAside (fires t) x left used r x
   unfolding ended
   none-left t k {x} {left} {used} h e q u = aside λ vars. quietly Done bottom left q (omega arith) u λ fuel l.
       none-fits k t h e fuel (state vars x left used)
 
   -- what is done from the trigger found on, is done from here on
-  pub from-found : {t number user body : ℕ} {x x' : Store} {left used : ℕ} {r : Ran} → Found t number user body
+  from-found : {t number user body : ℕ} {x x' : Store} {left used : ℕ} {r : Ran} → Found t number user body
       → DoesAside (fires number) x left used r x' → DoesAside (fires t) x left used r x'
   from-found {t} {number} {x = x} {left = left} {used = used} f d = aside λ vars.
       comes-to (λ fuel h. f .same fuel (state vars x left used)) (d .does vars)
+
+  -- ---- the turns of the loop
+
+  renumbered : {t t' : ℕ} {x x' : Store} {left used : ℕ} {r : Ran} → t ≡ t' → DoesAside (fires t) x left used r x' → DoesAside (fires t') x left used r x'
+  renumbered {x = x} {x' = x'} {left = left} {used = used} {r = r} e d = subst (λ (j : ℕ). DoesAside (fires j) x left used r x') e d
+
+  -- the invariant: what the triggers from `from` on do from here on is the rest of what those from t on do
+  pub record Remains (t : ℕ) (x : Store) (left used from : ℕ) (x' : Store) (left' used' : ℕ) : Type 0 where
+    pub ends : {r : Ran} {x'' : Store} → DoesAside (fires from) x' left' used' r x'' → DoesAside (fires t) x left used r x''
+    pub same : length (x' .trace) ≡ length (x .trace)
+    pub fits : used' ≤ length (x .trace)
+    pub within : left' ≤ left
+
+  module _ {t : ℕ} {x : Store} {left used from : ℕ} {x' : Store} {left' used' : ℕ} (m : Remains t x left used from x' left' used') where
+    -- no trigger is left that fits
+    pub remains-none : {r : Ran} → first-fitting file event place (count file 5 - from) from ≡ fitted.None → r ≡ ran Done left' used'
+        → DoesAside (fires t) x left used r x'
+    remains-none e q = m .ends (none-left from (count file 5 - from) refl e q (omega (arith, m .fits, m .same)))
+
+    -- a trigger fits, and its body is run
+    module _ {number user body : ℕ} (f : Found from number user body) (above : ℕ) {own-vars own-vars' : ℕ → Lab ℤ} (ev : own-vars ≡ trigger-vars ctx key z)
+        {r : Ran} {x'' : Store} (d : Does (Enters file ctx user above body) own-vars x' left' used' r own-vars' x'') (higher : above ≡ number + 1) where
+      pub remains-stops : {stop i : ℕ} → r .outcome ≡ Stopped stop i → DoesAside (fires t) x left used r x''
+      remains-stops k = m .ends (from-found f (fitting-stops number (f .below) (f .fits) above (f .user-is) (f .body-is) ev d higher k))
+
+      pub remains-turns : r .outcome ≡ Done → Remains t x left used above x'' (r .left) (r .used)
+      remains-turns k = record {
+        ends = λ g. m .ends (from-found f (fitting-goes number (f .below) (f .fits) above (f .user-is) (f .body-is) ev d higher k (renumbered higher g)));
+        same = same-trace d ∙ m .same;
+        fits = omega (arith, d .fits, m .same);
+        within = omega (arith, d .within, m .within);
+      }

@@ -614,7 +614,8 @@ fn post(
     }
 }
 
-// Runs the triggers from number `t` on that fit the write of the cell at `place`, by number; a trigger's writes fire only those above it.
+// Runs the triggers from number `t` on that fit the write of the cell at `place`, by number, a turn for each; a trigger's writes fire only those
+// above it.
 fn fire(
     file: &[u8; 21380],
     nodes: usize,
@@ -643,58 +644,44 @@ fn fire(
         (store (now (amounts .entry)) (now (presence .entry)) (now (labels .entry)) (now (read .entry)) (now (write .entry)) (now (trace .entry))) left used r
         (store (now (amounts .exit)) (now (presence .exit)) (now (labels .exit)) (now (read .exit)) (now (write .exit)) (now (trace .exit))) ⌝ }
 {
-    let next = triggers::next_fitting(file, t, event, place);
-    let Fitting::Trigger(number, user, body) = next else {
-        return machine::finished(left, used);
-    };
-    let own = triggers::variables(ctx, owner, line, event, amount, label);
-    let mut vars = own.values;
-    let mut tags = own.tags;
-    let above = number + 1;
-    let ran = exec(
-        file,
-        nodes,
-        costs,
-        public,
-        body,
-        above,
-        user,
-        left,
-        ctx,
-        read,
-        write,
-        &mut vars,
-        &mut tags,
-        amounts,
-        presence,
-        labels,
-        trace,
-        used,
-    );
-    let outcome = ran.outcome;
-    let Outcome::Done = outcome else {
-        return machine::passed(ran);
-    };
-    machine::passed(fire(
-        file,
-        nodes,
-        costs,
-        public,
-        above,
-        ran.left,
-        ctx,
-        event,
-        place,
-        owner,
-        line,
-        amount,
-        label,
-        read,
-        write,
-        amounts,
-        presence,
-        labels,
-        trace,
-        ran.used,
-    ))
+    let mut from = t;
+    let mut rest = left;
+    let mut written = used;
+    loop {
+        let next = triggers::next_fitting(file, from, event, place);
+        let Fitting::Trigger(number, user, body) = next else {
+            return machine::finished(rest, written);
+        };
+        let own = triggers::variables(ctx, owner, line, event, amount, label);
+        let mut vars = own.values;
+        let mut tags = own.tags;
+        let above = number + 1;
+        let ran = exec(
+            file,
+            nodes,
+            costs,
+            public,
+            body,
+            above,
+            user,
+            rest,
+            ctx,
+            read,
+            write,
+            &mut vars,
+            &mut tags,
+            amounts,
+            presence,
+            labels,
+            trace,
+            written,
+        );
+        let outcome = ran.outcome;
+        let Outcome::Done = outcome else {
+            return machine::passed(ran);
+        };
+        from = above;
+        rest = ran.left;
+        written = ran.used;
+    }
 }

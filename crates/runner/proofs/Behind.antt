@@ -19,7 +19,7 @@ use Rattle.encoder.proofs.Codec.{Codec, cells-codec, regions-codec, rights-code
 -- sections with no more than their most records end at byte 21,344
 all-full : {a b c d e end k l m n o q : ℕ} → a ≡ k * 8 → b ≡ a + l * 8 → c ≡ b + m * 4 → d ≡ c + n * 16 → e ≡ d + o * 4 → end ≡ e + q * 8
     → k ≤ 512 → l ≤ 64 → m ≤ 64 → n ≤ 1024 → o ≤ 8 → q ≤ 8 → end ≤ 21344
-all-full a b c d e end k l m n o q = omega arith
+all-full e₁ e₂ e₃ e₄ e₅ e₆ h₀ h₁ h₂ h₃ h₄ h₅ = omega arith
 
 -- so an accepted book has at most 21,380 bytes
 pub at-most : (f : List ℕ) → verdict f ≡ Accepted → length f ≤ 21380

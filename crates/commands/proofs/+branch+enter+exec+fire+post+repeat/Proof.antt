@@ -20,11 +20,11 @@ use Rattle.commands.proofs.repeat.Reads as repeat
 use Rattle.commands.proofs.+branch+enter+exec+fire+post+repeat.Lts-repeat as repeat-lts
 use Rattle.commands.proofs.+branch+enter+exec+fire+post+repeat.{statement}
 use Rattle.commands.proofs.+branch+enter+exec+fire+post+repeat.Tie.{close}
-use Rattle.commands.proofs.+branch+enter+exec+fire+post+repeat.Proof.Common.{μ-branch, μ-enter, μ-exec, μ-fire, μ-post, μ-repeat, branch-cs, branch-at, enter-cs, enter-at, exec-cs, exec-at, fire-cs, fire-at, post-cs, post-at, repeat-cs, repeat-at, exec-Inv-loop, exec-μ-loop, repeat-Inv-loop, repeat-μ-loop}
+use Rattle.commands.proofs.+branch+enter+exec+fire+post+repeat.Proof.Common.{μ-branch, μ-enter, μ-exec, μ-fire, μ-post, μ-repeat, branch-cs, branch-at, enter-cs, enter-at, exec-cs, exec-at, fire-cs, fire-at, post-cs, post-at, repeat-cs, repeat-at, exec-Inv-loop, exec-μ-loop, fire-Inv-loop, fire-μ-loop, repeat-Inv-loop, repeat-μ-loop}
 use Rattle.commands.proofs.+branch+enter+exec+fire+post+repeat.Proof.Branch.{branch-decide-requires, branch-enum-known-next, branch-enum-told, branch-ended-requires, branch-returns, branch-exec-requires, branch-passed-requires, branch-same-length, branch-returns-2}
 use Rattle.commands.proofs.+branch+enter+exec+fire+post+repeat.Proof.Enter.{enter-mul-kind, enter-add-kind, enter-element-copy-out-kind, enter-exec-requires, enter-passed-requires, enter-same-length, enter-returns, enter-cast-cost, enter-mul-cost, enter-element-copy-out-cost, enter-stopped-requires, enter-returns-2, enter-branch-requires, enter-repeat-requires, enter-post-requires, enter-post-requires-2, enter-act-requires, enter-same-length-2, enter-returns-3, enter-same-length-3, enter-returns-4, enter-same-length-4, enter-returns-5, enter-same-length-5, enter-returns-6, enter-same-length-6, enter-returns-7}
 use Rattle.commands.proofs.+branch+enter+exec+fire+post+repeat.Proof.Exec.{exec-loop-holds, exec-head-of-requires, exec-stopped-requires, exec-same-length, exec-returns, exec-enter-requires, exec-enum-told, exec-enum-told-2, exec-passed-requires, exec-same-length-2, exec-returns-2, exec-finished-requires, exec-same-length-3, exec-returns-3, exec-mul-u16-at, exec-add-u16-at, exec-add-u16-at-2, exec-u16-at-requires, exec-loop-less, exec-loop-again}
-use Rattle.commands.proofs.+branch+enter+exec+fire+post+repeat.Proof.Fire.{fire-next-fitting-requires, fire-enum-known-next, fire-enum-told, fire-finished-requires, fire-returns, fire-variables-requires, fire-add-above, fire-exec-requires, fire-enum-told-2, fire-enum-told-3, fire-passed-requires, fire-same-length, fire-returns-2, fire-fire-requires, fire-passed-requires-2, fire-same-length-2, fire-returns-3}
+use Rattle.commands.proofs.+branch+enter+exec+fire+post+repeat.Proof.Fire.{fire-loop-holds, fire-next-fitting-requires, fire-enum-known-next, fire-enum-told, fire-finished-requires, fire-same-length, fire-returns, fire-variables-requires, fire-add-above, fire-exec-requires, fire-enum-told-2, fire-enum-told-3, fire-passed-requires, fire-same-length-2, fire-returns-2, fire-loop-less, fire-loop-again}
 use Rattle.commands.proofs.+branch+enter+exec+fire+post+repeat.Proof.Post.{post-post-requires, post-enum-known-posted, post-stopped-requires, post-enum-known-posted-2, post-fire-requires, post-returns, post-same-length, post-returns-2}
 use Rattle.commands.proofs.+branch+enter+exec+fire+post+repeat.Proof.Repeat.{repeat-loop-holds, repeat-decide-requires, repeat-enum-known-next, repeat-enum-told, repeat-ended-requires, repeat-same-length, repeat-returns, repeat-exec-requires, repeat-pay-requires, repeat-enum-told-2, repeat-enum-told-3, repeat-passed-requires, repeat-same-length-2, repeat-returns-2, repeat-loop-less, repeat-loop-again}
 
@@ -100,10 +100,14 @@ pub +branch+enter+exec+fire+post+repeat-spec : {M : Type 1} → statement M
     (λ t. fire-lts.spec (fire-cs t)
     (fire-at t)
     fire.Post
+    fire-Inv-loop
+    fire-μ-loop
+    (fire-loop-holds t)
     (fire-next-fitting-requires t)
     (fire-enum-known-next t)
     (fire-enum-told t)
     (fire-finished-requires t)
+    (fire-same-length t)
     (fire-returns t)
     (fire-variables-requires t)
     (fire-add-above t)
@@ -111,12 +115,10 @@ pub +branch+enter+exec+fire+post+repeat-spec : {M : Type 1} → statement M
     (fire-enum-told-2 t)
     (fire-enum-told-3 t)
     (fire-passed-requires t)
-    (fire-same-length t)
-    (fire-returns-2 t)
-    (fire-fire-requires t)
-    (fire-passed-requires-2 t)
     (fire-same-length-2 t)
-    (fire-returns-3 t))
+    (fire-returns-2 t)
+    (fire-loop-less t)
+    (fire-loop-again t))
     (λ t. post-lts.spec (post-cs t)
     (post-at t)
     post.Post

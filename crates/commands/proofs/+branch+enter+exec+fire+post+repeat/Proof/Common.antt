@@ -1,7 +1,14 @@
 -- The measures of the cycle, and what each member may assume of the others.
 use Prim.Native.Nat.{ℕ, _+_, _-_, _*_, _<_}
-use Rattle.machine.specs.Store.{vars-of, store}
+use Rattle.machine.specs.Store.{vars-of, store, cell}
+use Rattle.machine.specs.Writes.{key-of}
+use Rattle.monitor.specs.Labelled.{Label, Lab}
+use Rattle.monitor.specs.Run.{Cell}
+use Rattle.monitor.specs.Rules.{Key}
+use mir.Syntax.{w32}
+use mir.Val.{toZ}
 use Rattle.commands.proofs.Chains.{weight, Chain}
+use Rattle.commands.proofs.Firing.{Remains}
 use Rattle.commands.proofs.Turns.{Turning}
 use borrow.Fn.Kinds.{In}
 use borrow.Fn.PlainCycle.{Measures, is, falls, and}
@@ -36,7 +43,7 @@ use Rattle.actions.proofs.act.Reads as act-reads
 use Rattle.puts.proofs.post.Reads as post-reads
 use Rattle.triggers.proofs.variables.Reads as variables-reads
 
--- Each entry of a node costs at least 1, and counts 16: what stands between two entries counts less, and firing what is left of eight triggers.
+-- Each entry of a node costs at least 1, and counts 16: what stands between two entries counts less.
 -- With the same budget `exec` enters only what is no sequence, which counts more before it is entered, and `enter` executes only a sequence, which counts less.
 
 abbrev pub μ-branch : Measures 12 branch-kinds.ps ℕ
@@ -49,7 +56,7 @@ abbrev pub μ-exec : Measures 12 exec-kinds.ps ℕ
 μ-exec κs a = weight (a .0 .now) (a .1 .1 .1 .1 .0) (a .1 .1 .1 .1 .1 .1 .1 .0)
 
 abbrev pub μ-fire : Measures 11 fire-kinds.ps ℕ
-μ-fire κs a = 16 * a .1 .1 .1 .1 .1 .0 + 3 + (8 - a .1 .1 .1 .1 .0)
+μ-fire κs a = 16 * a .1 .1 .1 .1 .1 .0 + 3
 
 abbrev pub μ-post : Measures 12 post-kinds.ps ℕ
 μ-post κs a = 16 * a .1 .1 .1 .1 .1 .1 .1 .0 + 15
@@ -103,7 +110,7 @@ abbrev pub exec-cs : ℕ → exec-lts.Claims
 exec-cs t = (head-of-reads.Asked, head-of-reads.Learnt, stopped-reads.Asked, stopped-reads.Learnt, enter-below t, enter.Post, passed-reads.Asked, passed-reads.Learnt, finished-reads.Asked, finished-reads.Learnt, u16-at-reads.Asked, u16-at-reads.Learnt)
 
 abbrev pub fire-cs : ℕ → fire-lts.Claims
-fire-cs t = (next-fitting-reads.Asked, next-fitting-reads.Learnt, finished-reads.Asked, finished-reads.Learnt, variables-reads.Asked, variables-reads.Learnt, exec-below t, exec.Post, passed-reads.Asked, passed-reads.Learnt, fire-below t, fire.Post)
+fire-cs t = (next-fitting-reads.Asked, next-fitting-reads.Learnt, finished-reads.Asked, finished-reads.Learnt, variables-reads.Asked, variables-reads.Learnt, exec-below t, exec.Post, passed-reads.Asked, passed-reads.Learnt)
 
 abbrev pub post-cs : ℕ → post-lts.Claims
 post-cs t = (post-reads.Asked, post-reads.Learnt, stopped-reads.Asked, stopped-reads.Learnt, fire-below t, fire.Post)
@@ -119,6 +126,22 @@ exec-Inv-loop file nodes costs public n above user left ctx read₀ write₀ var
 abbrev pub exec-μ-loop : exec-lts.MeasureT-loop
 exec-μ-loop file nodes costs public n above user left ctx read₀ write₀ vars₀ tags₀ amounts₀ presence₀ labels₀ trace₀ used turn₀ rest₀ written₀ read write vars tags amounts presence labels trace turn rest written =
     rest
+
+-- the key and the cell that a write hands to its triggers, from the bits of their numbers
+abbrev pub key-in : ℕ → ℕ → Key
+key-in owner line = key-of (toZ w32 owner) (toZ w32 line)
+
+abbrev pub cell-in : ℕ → ℕ → Label → Lab Cell
+cell-in event amount label = record { val = cell event (toZ w32 amount); lab = label }
+
+abbrev pub fire-Inv-loop : fire-lts.InvT-loop
+fire-Inv-loop file nodes costs public t left ctx event place owner line amount label read₀ write₀ amounts₀ presence₀ labels₀ trace₀ used from₀ rest₀ written₀ read write amounts presence labels trace from rest written =
+    Remains file ctx event place (key-in owner line) (cell-in event amount label) t (store amounts₀ presence₀ labels₀ read₀ write₀ trace₀) left used from
+    (store amounts presence labels read write trace) rest written
+
+abbrev pub fire-μ-loop : fire-lts.MeasureT-loop
+fire-μ-loop file nodes costs public t left ctx event place owner line amount label read₀ write₀ amounts₀ presence₀ labels₀ trace₀ used from₀ rest₀ written₀ read write amounts presence labels trace from rest written =
+    8 - from
 
 abbrev pub repeat-Inv-loop : repeat-lts.InvT-loop
 repeat-Inv-loop file nodes costs public n above user left ctx read₀ write₀ vars₀ tags₀ amounts₀ presence₀ labels₀ trace₀ used inner₀ rest₀ written₀ read write vars tags amounts presence labels trace inner rest written =
