@@ -16,7 +16,6 @@ use Rattle.monitor.specs.Run.{State, Rec, sixteen, each}
 use Rattle.monitor.specs.Rules.{program, run}
 use Rattle.monitor.specs.Call.{Memory, script, trace-bytes, start-cells, start-rights, start-state, run-book, memory-after, result-of, answered}
 use Rattle.monitor.proofs.Memory.{Sizes, amounts-kept, presence-kept, labels-kept}
-use Rattle.monitor.proofs.Start.{start-sizes}
 use Rattle.machine.specs.Store.{Store, store, state, with-records}
 use Rattle.machine.specs.Promises.{ended, DoesAside}
 use Rattle.machine.specs.declared.Outcome.{Outcome}
@@ -45,17 +44,6 @@ ran-to {budget = budget} {amounts} {amounts'} {presence} {presence'} {labels} {l
     ran : Book → Type 0
     ran b = DoesAside (λ fuel. each (drop 0 (script b .programs)) (program (script b) true fuel)) (store amounts presence labels read write trace) budget 0 r
         (store amounts' presence' labels' read' write' trace')
-
--- copies of loaded cells are a start, too
-pub copied-start : {file : List ℕ} {m : Memory} {amounts : List ℤ} {presence labels : List ℕ} → Loaded file m
-    → amounts ≡ m .amounts → presence ≡ m .presence → labels ≡ m .labels → Loaded file (lent amounts presence labels (m .trace))
-copied-start l a p t = record {
-  accepted = l .accepted;
-  amounts-are = a ∙ l .amounts-are;
-  presence-is = p ∙ l .presence-is;
-  labels-are = t ∙ l .labels-are;
-  short = l .short;
-}
 
 module _ {file : List ℕ} {budget : ℕ} {m m' : Memory} {r : Ran} (l : Loaded file m) (e : Ended file budget m r m') where
   abbrev start : Store
@@ -88,27 +76,14 @@ module _ {file : List ℕ} {budget : ℕ} {m m' : Memory} {r : Ran} (l : Loaded 
       let labels = sym (labels-kept (m' .amounts) (m' .presence) (m' .labels) h) in
       (λ i. result (ended-as (r .outcome) (budget - r .left) (used i)) (lent (amounts i) (presence i) (labels i) (trace i))) ∙ sym is
 
--- the same, where the programs ran on copies of the cells, which were then stored
-pub copy-gives : {file : List ℕ} {budget : ℕ} {m m' : Memory} {r : Ran} {amounts amounts' : List ℤ} {presence labels presence' labels' : List ℕ} → Loaded file m
-    → amounts ≡ m .amounts → presence ≡ m .presence → labels ≡ m .labels → Ended file budget (lent amounts presence labels (m .trace)) r m'
-    → amounts' ≡ m' .amounts → presence' ≡ m' .presence → labels' ≡ m' .labels → Sizes amounts' presence' labels'
-    → result (answer-of r budget) (lent amounts' presence' labels' (m' .trace)) ≡ answered true file budget m Accepted
-copy-gives {file} {budget} {m} {m'} {r} l a p t e a' p' t' h =
-    (λ i. result (answer-of r budget) (lent (a' i) (p' i) (t' i) (m' .trace)))
-    ∙ run-gives (copied-start l a p t) e (rw (sym a', sym p', sym t') h)
-    ∙ λ i. answered true file budget (lent (a i) (p i) (t i) (m .trace)) Accepted
+-- the same, where the cells were then stored
+pub stored-gives : {file : List ℕ} {budget : ℕ} {m m' : Memory} {r : Ran} {amounts : List ℤ} {presence labels : List ℕ} → Loaded file m → Ended file budget m r m'
+    → amounts ≡ m' .amounts → presence ≡ m' .presence → labels ≡ m' .labels → Sizes amounts presence labels
+    → result (answer-of r budget) (lent amounts presence labels (m' .trace)) ≡ answered true file budget m Accepted
+stored-gives {budget = budget} {m' = m'} {r} l e a p t h =
+    (λ i. result (answer-of r budget) (lent (a i) (p i) (t i) (m' .trace))) ∙ run-gives l e (rw (sym a, sym p, sym t) h)
 
--- loading leaves memory of the paper's lengths
-pub start-lengths : {file : List ℕ} {m : Memory} → Loaded file m → Lengths (m .amounts) (m .presence) (m .labels)
-start-lengths {file} l =
-    let sizes = start-sizes (decode file) in
-    record {
-      amounts-are = ap length (l .amounts-are) ∙ sizes .amounts-are;
-      presence-is = ap length (l .presence-is) ∙ sizes .presence-is;
-      labels-are = ap length (l .labels-are) ∙ sizes .labels-are;
-    }
-
--- and a run that leaves the lengths as they were leaves memory of the right size
+-- a run that leaves the lengths as they were leaves memory of the right size
 pub end-sizes : {amounts amounts' : List ℤ} {presence presence' labels labels' : List ℕ} → Lengths amounts presence labels
     → length amounts' ≡ length amounts → length presence' ≡ length presence → length labels' ≡ length labels → Words presence' → Sizes amounts' presence' labels'
 end-sizes h a p l w =

@@ -5,6 +5,7 @@ ghost use mathlib.Core.Path.{_≡_};
 ghost use mathlib.Core.Bool.{true};
 ghost use Rattle.book.specs.Start.{Lengths};
 ghost use Rattle.book.specs.declared.Verdict.the-variants.{Accepted};
+ghost use Rattle.loader.specs.Load.{lent-fits};
 ghost use Rattle.monitor.specs.Call.{answered};
 ghost use Rattle.entry.specs.Entry.{lent, result, Runs};
 ghost use Rattle.runner.specs.Start.{Loaded, Ended};
@@ -65,32 +66,44 @@ fn run_programs(
     )
 }
 
-// Runs an accepted book whose start state is in lent memory. The run works on arrays, so that no function below asks for their lengths;
-// at the end lent memory gets what they hold.
+// Runs an accepted book whose start state is in arrays of its own; at the end lent memory gets what they hold. The run works on arrays, so that
+// no function below asks for their lengths.
 fn started(
     file: &[u8],
     budget: u32,
+    values: &mut [i32; 512],
+    present: &mut [u64; 8],
+    tags: &mut [u64; 4096],
     amounts: &mut [i32],
     presence: &mut [u64],
     labels: &mut [u64],
     trace: &mut [u8],
 ) -> Answer
-    requires { ⌜ Loaded (now file) (lent (now amounts) (now presence) (now labels) (now trace)) ⌝ }
+    requires { ⌜ Loaded (now file) (lent (now values) (now present) (now tags) (now trace)) ⌝ }
+    requires { ⌜ Lengths (now amounts) (now presence) (now labels) ⌝ }
     ensures { λ r. ⌜ result r (lent (now (amounts .exit)) (now (presence .exit)) (now (labels .exit)) (now (trace .exit)))
-        ≡ answered true (now (file .entry)) budget (lent (now (amounts .entry)) (now (presence .entry)) (now (labels .entry)) (now (trace .entry))) Accepted ⌝ }
+        ≡ answered true (now (file .entry)) budget (lent (now (values .entry)) (now (present .entry)) (now (tags .entry)) (now (trace .entry))) Accepted ⌝ }
 {
-    let mut values = [0i32; 512];
-    let mut present = [0u64; 8];
-    let mut tags = [0u64; 4096];
-    memory::copy_amounts(amounts, &mut values);
-    memory::copy_words(presence, &mut present);
-    memory::copy_words(labels, &mut tags);
-    let ran = run_programs(file, budget, &mut values, &mut present, &mut tags, trace);
-    store_cells(&values, &present, &tags, amounts, presence, labels);
+    let ran = run_programs(file, budget, values, present, tags, trace);
+    store_cells(values, present, tags, amounts, presence, labels);
     entry::answer_of(ran, budget)
 }
 
-// Runs the book in a file: sets lent memory to its start state, runs its programs and answers; or refuses and leaves all as it was.
+// Whether lent memory has 512 amounts, 8 presence words and 4,096 label words.
+fn lengths_fit(amounts: &[i32], presence: &[u64], labels: &[u64]) -> bool
+    ensures { λ r. ⌜ r ≡ lent-fits (now (amounts .entry)) (now (presence .entry)) (now (labels .entry)) ⌝ }
+{
+    if amounts.len() != 512 {
+        return false;
+    }
+    if presence.len() != 8 {
+        return false;
+    }
+    labels.len() == 4096
+}
+
+// Runs the book in a file: from its start state it runs its programs, leaves in lent memory what they leave, and answers; or refuses and leaves
+// all as it was.
 pub fn run(
     file: &[u8],
     budget: u32,
@@ -108,8 +121,24 @@ pub fn run(
     if 65536 < trace.len() {
         return Answer::Refused(1, 0);
     }
-    match loader::load(file, amounts, presence, labels) {
+    if !lengths_fit(amounts, presence, labels) {
+        return Answer::Refused(1, 0);
+    }
+    let mut values = [0i32; 512];
+    let mut present = [0u64; 8];
+    let mut tags = [0u64; 4096];
+    match loader::load(file, &mut values, &mut present, &mut tags) {
         book::Verdict::Refused(number, index) => Answer::Refused(number, index),
-        book::Verdict::Accepted => started(file, budget, amounts, presence, labels, trace),
+        book::Verdict::Accepted => started(
+            file,
+            budget,
+            &mut values,
+            &mut present,
+            &mut tags,
+            amounts,
+            presence,
+            labels,
+            trace,
+        ),
     }
 }

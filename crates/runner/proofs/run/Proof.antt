@@ -1,10 +1,13 @@
--- `runner::run` meets its contract: refused by the budget, by the trace or by loading, or the run of the loaded book.
-use mathlib.Core.Path.{_∙_}
+-- `runner::run` meets its contract: refused by the budget, by lent memory or by loading, or the run of the loaded book.
+use mathlib.Core.Path.{_≡_, refl, sym, _∙_}
+use mathlib.Core.Bool.{true}
 use Prim.Native.Nat.{_≤_}
 use native.Mathlib.Omega.{arith}
 use lib.ListN.{length}
 use borrow.Author.Needs.{needs}
-use Rattle.runner.proofs.Calls.{budget-over, trace-over, load-refuses, load-starts, load-runs}
+use borrow.Author.Tests.{not-true, not-false}
+use Rattle.loader.specs.Load.{lent-fits}
+use Rattle.runner.proofs.Calls.{budget-over, trace-over, lengths-other, load-refuses, load-starts, load-runs, lengths-are}
 use Rattle.runner.proofs.run.Statement.{statement}
 use Rattle.runner.proofs.run.Tie as tie
 
@@ -18,11 +21,31 @@ returns-2 c =
     let a = c .before .before .before .before .before .before .args in
     trace-over (a .file .now) (a .budget) (a .amounts .now) (a .presence .now) (a .labels .now) (a .trace .now) (omega (arith, c .if2 .taken))
 
--- budget and trace are within their bounds
-within : (c : tie.Else2)
-    → let a = c .before .before .before .before .before .before .args in
-    (a .budget ≤ 1000000) × (length (a .trace .now) ≤ 65536)
-within c = (omega (arith, c .before .if1 .left), omega (arith, c .if2 .left))
+lengths-fit-requires : tie.Need-lengths-fit-requires
+lengths-fit-requires c κs = search needs
+
+same-length : tie.Need-same-length
+same-length c = search needs
+
+same-length-2 : tie.Need-same-length-2
+same-length-2 c = search needs
+
+same-length-3 : tie.Need-same-length-3
+same-length-3 c = search needs
+
+returns-3 : tie.Need-returns-3
+returns-3 c =
+    let a = c .before .before .before .before .before .before .before .before .before .before .before .args in
+    lengths-other (a .file .now) (a .budget) (a .amounts .now) (a .presence .now) (a .labels .now) (a .trace .now) (sym (c .before .lengths-fit .ensures) ∙ not-true _ (c .if3 .taken))
+
+slice-aggregate-load : tie.Need-slice-aggregate-load
+slice-aggregate-load c = refl
+
+slice-aggregate-load-2 : tie.Need-slice-aggregate-load-2
+slice-aggregate-load-2 c = refl
+
+slice-aggregate-load-3 : tie.Need-slice-aggregate-load-3
+slice-aggregate-load-3 c = refl
 
 load-requires : tie.Need-load-requires
 load-requires c κs = search needs
@@ -33,50 +56,63 @@ enum-known-number c = search needs
 enum-told : tie.Need-enum-told
 enum-told c = search needs
 
+-- past the tests: budget, trace and lent memory are as they should be
+within : (c : tie.Else3)
+    → let a = c .before .before .before .before .before .before .before .before .before .before .before .args in
+    (a .budget ≤ 1000000) × (length (a .trace .now) ≤ 65536) × (lent-fits (a .amounts .now) (a .presence .now) (a .labels .now) ≡ true)
+within c =
+    let test = c .before .before .before .before .before in
+    (omega (arith, test .before .if1 .left), omega (arith, test .if2 .left), sym (c .before .lengths-fit .ensures) ∙ not-false _ (c .if3 .left))
+
 started-requires : tie.Need-started-requires
 started-requires c κs =
-    let told = c .before .before .before .before in
-    let load = told .before .before .before .before .before .before .before in
+    let told = c .before .before .before .before .before .before .before in
+    let load = told .before .before .before .before .before in
     let test = load .before .before .before .before in
-    let a = test .before .before .before .before .before .before .args in
-    load-starts (a .file .now) (a .budget) (a .amounts .now) (a .presence .now) (a .labels .now) (a .trace .now) (within test .0) (within test .1) _ _ _ _ (load .load .ensures) (told .enum-told .given .1)
-
-same-length : tie.Need-same-length
-same-length c = c .before .before .before .before .before .before .before .before .load .kept .1 .0
-
-same-length-2 : tie.Need-same-length-2
-same-length-2 c = c .before .before .before .before .before .before .before .before .load .kept .1 .1 .0
-
-same-length-3 : tie.Need-same-length-3
-same-length-3 c = c .before .before .before .before .before .before .before .before .load .kept .1 .1 .1 .0
-
-returns-3 : tie.Need-returns-3
-returns-3 c =
-    let load = c .before .before .before .before .before .before .before .before in
-    let test = load .before .before .before .before in
-    let a = test .before .before .before .before .before .before .args in
-    load-refuses (a .file .now) (a .budget) (a .amounts .now) (a .presence .now) (a .labels .now) (a .trace .now) (within test .0) (within test .1) _ _ _ _ (load .load .ensures) _ _ (c .before .number .given .1)
+    let a = test .before .before .before .before .before .before .before .before .before .before .before .args in
+    let w = within test in (
+      load-starts (a .file .now) (a .budget) (a .amounts .now) (a .presence .now) (a .labels .now) (a .trace .now) (w .0) (w .1) (w .2) _ _ _ refl _ _ _ _ (load .load .ensures) (told .enum-told .given .1),
+      lengths-are (a .file .now) (a .budget) (a .amounts .now) (a .presence .now) (a .labels .now) (a .trace .now) (w .0) (w .1) (w .2) _ _ _ refl _ _ _ _ (load .load .ensures),
+    )
 
 same-length-4 : tie.Need-same-length-4
-same-length-4 c = c .before .before .before .before .before .before .before .started .kept .1 .1 .0 ∙ c .before .before .before .before .before .before .before .before .before .before .before .before .before .before .before .before .before .before .before .load .kept .1 .0
+same-length-4 c = search needs
 
 same-length-5 : tie.Need-same-length-5
-same-length-5 c = c .before .before .before .before .before .before .before .started .kept .1 .1 .1 .0 ∙ c .before .before .before .before .before .before .before .before .before .before .before .before .before .before .before .before .before .before .before .load .kept .1 .1 .0
+same-length-5 c = search needs
 
 same-length-6 : tie.Need-same-length-6
-same-length-6 c = c .before .before .before .before .before .before .before .started .kept .1 .1 .1 .1 .0 ∙ c .before .before .before .before .before .before .before .before .before .before .before .before .before .before .before .before .before .before .before .load .kept .1 .1 .1 .0
+same-length-6 c = search needs
+
+returns-4 : tie.Need-returns-4
+returns-4 c =
+    let load = c .before .before .before .before .before .before in
+    let test = load .before .before .before .before in
+    let a = test .before .before .before .before .before .before .before .before .before .before .before .args in
+    let w = within test in
+    load-refuses (a .file .now) (a .budget) (a .amounts .now) (a .presence .now) (a .labels .now) (a .trace .now) (w .0) (w .1) (w .2) _ _ _ refl _ _ _ _ (load .load .ensures) _ _ (c .before .number .given .1)
 
 same-length-7 : tie.Need-same-length-7
 same-length-7 c = c .before .before .before .before .before .before .before .started .kept .1 .1 .1 .1 .1 .0
 
-returns-4 : tie.Need-returns-4
-returns-4 c =
+same-length-8 : tie.Need-same-length-8
+same-length-8 c = c .before .before .before .before .before .before .before .started .kept .1 .1 .1 .1 .1 .1 .0
+
+same-length-9 : tie.Need-same-length-9
+same-length-9 c = c .before .before .before .before .before .before .before .started .kept .1 .1 .1 .1 .1 .1 .1 .0
+
+same-length-10 : tie.Need-same-length-10
+same-length-10 c = c .before .before .before .before .before .before .before .started .kept .1 .1 .1 .1 .1 .1 .1 .1 .0
+
+returns-5 : tie.Need-returns-5
+returns-5 c =
     let ran = c .before .before .before .before .before .before .before in
-    let told = ran .before .before .before .before .before in
-    let load = told .before .before .before .before .before .before .before in
+    let told = ran .before .before .before .before .before .before .before .before in
+    let load = told .before .before .before .before .before in
     let test = load .before .before .before .before in
-    let a = test .before .before .before .before .before .before .args in
-    load-runs (a .file .now) (a .budget) (a .amounts .now) (a .presence .now) (a .labels .now) (a .trace .now) (within test .0) (within test .1) _ _ _ _ (load .load .ensures) (told .enum-told .given .1) (ran .started .ensures)
+    let a = test .before .before .before .before .before .before .before .before .before .before .before .args in
+    let w = within test in
+    load-runs (a .file .now) (a .budget) (a .amounts .now) (a .presence .now) (a .labels .now) (a .trace .now) (w .0) (w .1) (w .2) _ _ _ refl _ _ _ _ (load .load .ensures) (told .enum-told .given .1) (ran .started .ensures)
 
 pub run-spec : {M : Type 1} → statement M
 run-spec =
@@ -84,16 +120,24 @@ run-spec =
     (tie.spec
     returns
     returns-2
-    load-requires
-    enum-known-number
-    enum-told
-    started-requires
+    lengths-fit-requires
     same-length
     same-length-2
     same-length-3
     returns-3
+    slice-aggregate-load
+    slice-aggregate-load-2
+    slice-aggregate-load-3
+    load-requires
+    enum-known-number
+    enum-told
+    started-requires
     same-length-4
     same-length-5
     same-length-6
+    returns-4
     same-length-7
-    returns-4)
+    same-length-8
+    same-length-9
+    same-length-10
+    returns-5)
