@@ -2,18 +2,18 @@
 -- reached from parent to child (`reaches-means`), and one pass over the nodes finds it for each of them (`flag-right`), where
 -- expressions are passed by (`expression-safe`). Assumes nothing.
 use mathlib.Core.Path.{_≡_, refl, sym, ap, _∙_}
-use mathlib.Core.Bool.{Bool, true, false, _&&_, _||_, not, or-true, false≢true}
+use mathlib.Core.Bool.{Bool, true, false, _&&_, _||_, not, or-true, or-false, cond, false≢true}
 use mathlib.Core.List.{List}
 use Prim.Native.Nat.{ℕ, zero, suc, _≤_, _<_}
 use native.Mathlib.Nat.{not-suc-le-zero, lt-of-not-le}
 use native.Mathlib.Omega.{arith}
 use lib.ListN.{length, replicate, getD-replicate}
 use lib.Dec.{eqb, ltb}
-use borrow.Author.Tests.{eq-eqb, eqb-true, ltb-true, not-true, not-false}
+use borrow.Author.Tests.{eq-eqb, ne-eqb, eqb-true, ltb-true, not-false}
 use Rattle.book.specs.Records.{NodeRecord, Book}
 use Rattle.book.specs.Layout.{count, decode}
 use Rattle.book.specs.Start.{tabulate}
-use Rattle.book.specs.Kinds.{no-kind, expression, command, constant, between, sort-of, Fields, fields-of, row-of}
+use Rattle.book.specs.Kinds.{no-kind, expression, constant, sort-of, Fields, fields-of, row-of}
 use Rattle.book.specs.declared.Row.{Row}
 use Rattle.book.specs.Refusals.{first, node-at, sorted, field-fits, is-zero, node-fits, bad-node, forbidden, child, reaches}
 use Rattle.book.proofs.First.{below-first}
@@ -66,14 +66,6 @@ module _ (b : Book) (i : ℕ) where
   child-lower g (in-c e) = lower _ _ e (good-fields g .2)
   child-lower g (in-d e) = lower _ _ e (good-fields g .3)
 
-  -- the same of a record that is node i's
-  pub children-lower : node-fits b i ≡ true → (x : NodeRecord) → node-at b i ≡ x
-      → (names-child (fields-of (x .kind) .a) ≡ true → x .a < i) × (names-child (fields-of (x .kind) .b) ≡ true → x .b < i)
-      × (names-child (fields-of (x .kind) .c) ≡ true → x .c < i) × (names-child (fields-of (x .kind) .d) ≡ true → x .d < i)
-  children-lower g x e =
-      rw (← e)
-      (λ h. child-lower g (in-a h), λ h. child-lower g (in-b h), λ h. child-lower g (in-c h), λ h. child-lower g (in-d h))
-
 -- ---- one step down
 
 module _ (b : Book) where
@@ -115,42 +107,53 @@ module _ (b : Book) where
         let n : ℕ = length (b .nodes) in
         step-same f (reaches b n) i e (nodes .good i h) ∙ deep-enough (suc n) n i (omega arith) h h
 
--- ---- an expression leads to expressions alone, and none of them is forbidden
+-- ---- of the kinds that are not forbidden only a sequence and a choice have commands as children, and no expression leads to a forbidden kind
 
 -- a field in this role names no child, or an expression
 abbrev mild : ℕ → Bool
 mild role = not (names-child role) || eqb role expression
 
--- a kind that is none of an expression, or is not forbidden and has no commands as children
+-- a forbidden kind, a sequence or a choice
+abbrev leads : ℕ → Bool
+leads kind = forbidden kind || (eqb kind 18 || eqb kind 19)
+
+-- these are no expressions, and the other kinds have no commands as children
 harmless : ℕ → Bool
 harmless kind =
-    not (eqb (sort-of kind) expression)
-    || (not (forbidden kind) && (mild (fields-of kind .a) && (mild (fields-of kind .b) && (mild (fields-of kind .c) && mild (fields-of kind .d)))))
+    cond (leads kind) (not (eqb (sort-of kind) expression))
+    (mild (fields-of kind .a) && (mild (fields-of kind .b) && (mild (fields-of kind .c) && mild (fields-of kind .d))))
 
 -- tested once, over the whole table
 tested : (kind : ℕ) → kind < 27 → harmless kind ≡ true
 unfolding harmless tabulate sort-of fields-of forbidden
 tested kind h = sym (table-at harmless 27 (replicate 27 true) refl kind true h) ∙ getD-replicate 27 kind true true h
 
--- an expression's kind is in the table
-in-table : (kind : ℕ) → sort-of kind ≡ expression → kind < 27
+-- a kind that there is is in the table
+in-table : (kind : ℕ) → (sort-of kind ≡ no-kind → ⊥) → kind < 27
 unfolding row-of sort-of
-in-table kind e =
-    lt-of-not-le
-    (λ (h : 27 ≤ kind).
-    let z : _≡_ {A = ℕ} 0 1 = sym (ap (λ (r : Row). r .sort) (past kind h)) ∙ e in
-    omega arith)
+in-table kind n = lt-of-not-le (λ (h : 27 ≤ kind). n (ap (λ (r : Row). r .sort) (past kind h)))
 
-parts : (kind a b c d : Bool) → not kind && (a && (b && (c && d))) ≡ true → (kind ≡ false) × (a ≡ true) × (b ≡ true) × (c ≡ true) × (d ≡ true)
-parts kind a b c d e =
-    let x = both (not kind) (a && (b && (c && d))) e in
-    let y = both a (b && (c && d)) (x .1) in
+plain : (kind : ℕ) → sort-of kind ≡ expression → leads kind ≡ false
+unfolding harmless
+plain kind e = go (leads kind) refl
+  where
+    go : (t : Bool) → leads kind ≡ t → leads kind ≡ false
+    go true l = absurd (false≢true (rw (l, eq-eqb _ _ e) at (tested kind (in-table kind (λ n. omega arith)))))
+    go false l = l
+
+four : (a b c d : Bool) → a && (b && (c && d)) ≡ true → (a ≡ true) × (b ≡ true) × (c ≡ true) × (d ≡ true)
+four a b c d e =
+    let y = both a (b && (c && d)) e in
     let z = both b (c && d) (y .1) in
     let w = both c d (z .1) in
-    (not-true kind (x .0), y .0, z .0, w .0, w .1)
+    (y .0, z .0, w .0, w .1)
+
+neither : (a b : Bool) → a || b ≡ false → (a ≡ false) × (b ≡ false)
+neither true b e = absurd (false≢true (sym e))
+neither false b e = (refl, e)
 
 module _ (b : Book) (nodes : GoodNodes b) where
-  module _ (f : ℕ → Bool) (i : ℕ) (none : (v : ℕ) → v < i → sort-of (node-at b v .kind) ≡ expression → f v ≡ false) where
+  module _ (f : ℕ → Bool) (i : ℕ) (h : i < length (b .nodes)) (none : (v : ℕ) → v < i → sort-of (node-at b v .kind) ≡ expression → f v ≡ false) where
     no-child : (role v : ℕ) → mild role ≡ true → field-fits b i role v ≡ true → child f role v ≡ false
     unfolding field-fits
     no-child role v m h = go (names-child role) refl
@@ -162,17 +165,49 @@ module _ (b : Book) (nodes : GoodNodes b) where
             rw e (none v (ltb-true v i (t .0)) (eqb-true _ _ (t .1) ∙ r))
         go false e = rw e
 
+    there-is : sort-of (node-at b i .kind) ≡ no-kind → ⊥
+    unfolding node-fits
+    there-is e = false≢true (rw (eq-eqb _ _ e) at (nodes .good i h))
+
+    -- a node that does not lead on
+    still : leads (node-at b i .kind) ≡ false → step b f i ≡ false
+    unfolding harmless
+    still e =
+        let kind : ℕ = node-at b i .kind in
+        let u : Fields = roles b i in
+        let good = good-fields b i (nodes .good i h) in
+        let l = neither (forbidden kind) (eqb kind 18 || eqb kind 19) e in
+        let p = four (mild (u .a)) (mild (u .b)) (mild (u .c)) (mild (u .d)) (rw e at (tested kind (in-table kind there-is))) in
+        or-pass (l .0)
+        (or-pass (no-child _ _ (p .0) (good .0))
+        (or-pass (no-child _ _ (p .1) (good .1)) (or-pass (no-child _ _ (p .2) (good .2)) (no-child _ _ (p .3) (good .3)))))
+
+    pub other-step : eqb (node-at b i .kind) 18 ≡ false → eqb (node-at b i .kind) 19 ≡ false → step b f i ≡ forbidden (node-at b i .kind)
+    other-step p q = go (forbidden (node-at b i .kind)) refl
+      where
+        go : (t : Bool) → forbidden (node-at b i .kind) ≡ t → step b f i ≡ forbidden (node-at b i .kind)
+        go true e = or-hold _ e ∙ sym e
+        go false e = still (or-pass e (or-pass p q)) ∙ sym e
+
+    pub sequence-step : node-at b i .kind ≡ 18
+        → (node-at b i .a < i) × (node-at b i .b < i) × (step b f i ≡ f (node-at b i .a) || f (node-at b i .b))
+    unfolding fields-of forbidden
+    sequence-step e =
+        let good = nodes .good i h in
+        (child-lower b i good (in-a (rw e)), child-lower b i good (in-b (rw e)), rw e (ap (λ (t : Bool). f (node-at b i .a) || t) (or-false _)))
+
+    pub choice-step : node-at b i .kind ≡ 19
+        → (node-at b i .b < i) × (node-at b i .c < i) × (step b f i ≡ f (node-at b i .b) || f (node-at b i .c))
+    unfolding fields-of forbidden
+    choice-step e =
+        let good = nodes .good i h in
+        let test : f (node-at b i .a) ≡ false = no-child expression _ refl (rw e at (good-fields b i good .0)) in
+        (child-lower b i good (in-b (rw e)), child-lower b i good (in-c (rw e)), rw e (or-pass test (ap (λ (t : Bool). f (node-at b i .b) || t) (or-false _))))
+
   pub expression-safe : (n i : ℕ) → i < length (b .nodes) → sort-of (node-at b i .kind) ≡ expression → reaches b n i ≡ false
-  unfolding reaches harmless
+  unfolding reaches
   expression-safe zero i h e = refl
-  expression-safe (suc n) i h e =
-      let kind : ℕ = node-at b i .kind in
-      let u : Fields = roles b i in
-      let good = good-fields b i (nodes .good i h) in
-      let none = no-child (reaches b n) i (λ v l q. expression-safe n v (omega arith) q) in
-      let p = parts (forbidden kind) (mild (u .a)) (mild (u .b)) (mild (u .c)) (mild (u .d)) (rw (eq-eqb _ _ e) at (tested kind (in-table kind e))) in
-      or-pass (p .0)
-      (or-pass (none _ _ (p .1) (good .0)) (or-pass (none _ _ (p .2) (good .1)) (or-pass (none _ _ (p .3) (good .2)) (none _ _ (p .4) (good .3)))))
+  expression-safe (suc n) i h e = still (reaches b n) i h (λ v l q. expression-safe n v (omega arith) q) (plain _ e)
 
 -- ---- the definition says what the paper says
 
@@ -238,9 +273,29 @@ module _ (s : List ℕ) (e : first (bad-node (decode s)) (count s 3) ≡ count s
       fits : (i : ℕ) → i < length (decode s .nodes) → i < first (bad-node (decode s)) (count s 3)
       fits i h = rw (e, ← count-nodes s) h
 
-  pub file-expression-safe : (i : ℕ) → i < count s 3 → sort-of (node-at (decode s) i .kind) ≡ expression → reaches (decode s) (count s 3) i ≡ false
-  file-expression-safe i h = expression-safe (decode s) good-nodes (count s 3) i (rw (count-nodes s) h)
+  -- the flag of node i, from flags that are right below it
+  module _ (f : ℕ → Bool) (i : ℕ) (h : i < count s 3) (right : (j : ℕ) → j < i → f j ≡ reaches (decode s) (count s 3) j) where
+    inside : i < length (decode s .nodes)
+    inside = rw (count-nodes s) h
 
-  pub file-flag-right : (f : ℕ → Bool) (i : ℕ) → i < count s 3 → ((j : ℕ) → j < i → f j ≡ reaches (decode s) (count s 3) j)
-      → step (decode s) f i ≡ reaches (decode s) (count s 3) i
-  file-flag-right = rw (← count-nodes s) (flag-right (decode s) good-nodes)
+    none : (v : ℕ) → v < i → sort-of (node-at (decode s) v .kind) ≡ expression → f v ≡ false
+    none v l e = right v l ∙ expression-safe (decode s) good-nodes (count s 3) v (omega (arith, inside)) e
+
+    flag : step (decode s) f i ≡ reaches (decode s) (count s 3) i
+    flag = rw (← count-nodes s) (flag-right (decode s) good-nodes f i inside (rw (count-nodes s) right))
+
+    pub sequence-flag : node-at (decode s) i .kind ≡ 18
+        → (node-at (decode s) i .a < i) × (node-at (decode s) i .b < i) × (f (node-at (decode s) i .a) || f (node-at (decode s) i .b) ≡ reaches (decode s) (count s 3) i)
+    sequence-flag e =
+        let step = sequence-step (decode s) good-nodes f i inside none e in
+        (step .0, step .1, sym (step .2) ∙ flag)
+
+    pub choice-flag : node-at (decode s) i .kind ≡ 19
+        → (node-at (decode s) i .b < i) × (node-at (decode s) i .c < i) × (f (node-at (decode s) i .b) || f (node-at (decode s) i .c) ≡ reaches (decode s) (count s 3) i)
+    choice-flag e =
+        let step = choice-step (decode s) good-nodes f i inside none e in
+        (step .0, step .1, sym (step .2) ∙ flag)
+
+    pub other-flag : (node-at (decode s) i .kind ≡ 18 → ⊥) → (node-at (decode s) i .kind ≡ 19 → ⊥)
+        → forbidden (node-at (decode s) i .kind) ≡ reaches (decode s) (count s 3) i
+    other-flag p q = sym (other-step (decode s) good-nodes f i inside none (ne-eqb _ _ p) (ne-eqb _ _ q)) ∙ flag
