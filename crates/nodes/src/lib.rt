@@ -4,12 +4,12 @@ ghost use mathlib.Core.Bool.{_&&_, _||_};
 ghost use Prim.Native.Nat.{_+_, _≤_};
 ghost use lib.Dec.{eqb, ltb};
 ghost use lib.ListN.{length, getD};
-ghost use Rattle.book.specs.Bytes.{le32, signed32};
+ghost use Rattle.book.specs.Bytes.{le16, le32, signed32};
 ghost use Rattle.book.specs.Records.{Book};
 ghost use Rattle.book.specs.Layout.{count, decode};
 ghost use Rattle.book.specs.Kinds.{constant};
 ghost use Rattle.book.specs.Refusals.{first, Laid, bad-node, field-fits, is-zero, node-fits};
-ghost use Rattle.nodes.specs.Known.{Known, Stands};
+ghost use Rattle.nodes.specs.Known.{Known, Stands, fields-fit};
 
 // Whether node `n` may name `v` as a child of this sort: a lower number, and the right sort.
 fn child_fits(sorts: &[u8; 1024], n: usize, sort: u8, v: usize) -> bool
@@ -53,6 +53,49 @@ fn constant_fits(file: &[u8], at: usize, role: u8) -> bool
     numbers::u32_at(file, at) == 0
 }
 
+// Whether two fields of 16 bits, the first at byte `at`, are both 0.
+fn both_zero(file: &[u8], at: usize) -> bool
+    requires { ⌜ at + 4 ≤ length (now file) ⌝ }
+    ensures { λ r. ⌜ r ≡ (eqb (le16 (now (file .entry)) at) 0 && eqb (le16 (now (file .entry)) (at + 2)) 0) ⌝ }
+{
+    numbers::u32_at(file, at) == 0
+}
+
+// Whether the fields a to d of node `n`, whose record is at byte `at`, are as the row says. A kind that does not name a names none of
+// them, and one that does not name c does not name d: these are tested together.
+fn fields_fit(
+    file: &[u8],
+    regions: usize,
+    sorts: &[u8; 1024],
+    n: usize,
+    at: usize,
+    row: book::Row,
+) -> bool
+    requires { ⌜ Stands (now file) n at row ⌝ }
+    requires { ⌜ Known (decode (now file)) regions (now sorts) n ⌝ }
+    ensures { λ r. ⌜ r ≡ fields-fit (decode (now (file .entry))) n row ⌝ }
+{
+    if row.a == 0 {
+        if !both_zero(file, at + 2) {
+            return false;
+        }
+        return both_zero(file, at + 6);
+    }
+    if !field_fits(regions, sorts, n, row.a, numbers::u16_at(file, at + 2)) {
+        return false;
+    }
+    if !field_fits(regions, sorts, n, row.b, numbers::u16_at(file, at + 4)) {
+        return false;
+    }
+    if row.c == 0 {
+        return both_zero(file, at + 6);
+    }
+    if !field_fits(regions, sorts, n, row.c, numbers::u16_at(file, at + 6)) {
+        return false;
+    }
+    field_fits(regions, sorts, n, row.d, numbers::u16_at(file, at + 8))
+}
+
 // Whether node `n`, whose record is at byte `at`, is of a kind that there is, and each of its fields is as the kind's row says.
 fn node_fits(
     file: &[u8],
@@ -72,16 +115,7 @@ fn node_fits(
     if !field_fits(regions, sorts, n, row.p, file[at + 1] as usize) {
         return false;
     }
-    if !field_fits(regions, sorts, n, row.a, numbers::u16_at(file, at + 2)) {
-        return false;
-    }
-    if !field_fits(regions, sorts, n, row.b, numbers::u16_at(file, at + 4)) {
-        return false;
-    }
-    if !field_fits(regions, sorts, n, row.c, numbers::u16_at(file, at + 6)) {
-        return false;
-    }
-    if !field_fits(regions, sorts, n, row.d, numbers::u16_at(file, at + 8)) {
+    if !fields_fit(file, regions, sorts, n, at, row) {
         return false;
     }
     if !constant_fits(file, at + 10, row.k) {

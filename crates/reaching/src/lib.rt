@@ -22,7 +22,7 @@ fn flagged(flags: &[bool; 1024], i: usize, j: usize) -> bool
 }
 
 // Whether node `n` is of a forbidden kind or has a flagged child, where the nodes below it are flagged already. No expression is flagged,
-// and of the kinds that are not forbidden only a sequence and a choice name commands.
+// and of the kinds that are not forbidden only a sequence, 18, and a choice, 19, name commands.
 fn reaches(file: &[u8], nodes: book::Section, flags: &[bool; 1024], n: usize) -> bool
     requires { ⌜ Laid (now file) × (nodes ≡ section (now file) 3) × (n < count (now file) 3) ⌝ }
     requires { ⌜ first (bad-node (decode (now file))) (count (now file) 3) ≡ count (now file) 3 ⌝ }

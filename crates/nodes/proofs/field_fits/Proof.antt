@@ -14,17 +14,12 @@ use Rattle.book.specs.Kinds.{between}
 use Rattle.book.specs.Refusals.{sorted, field-fits}
 use Rattle.book.proofs.Chains.{pass, fail}
 use Rattle.nodes.specs.Known.{Known}
+use Rattle.nodes.proofs.Rows.{no-role}
 use Rattle.nodes.proofs.field_fits.Statement.{statement}
 use Rattle.nodes.proofs.field_fits.Tie as tie
 
 -- the test of each role
 module _ (b : Book) (n role v : ℕ) where
-  no-role : role < 1 → field-fits b n role v ≡ eqb v 0
-  unfolding field-fits
-  no-role h =
-      let e : role ≡ 0 = omega arith in
-      rw e
-
   child-role : 1 ≤ role → role ≤ 2 → field-fits b n role v ≡ ltb v n && sorted b role v
   unfolding field-fits
   child-role h l = rw (le-leb 1 role h, le-leb role 2 l)
@@ -60,7 +55,9 @@ module _ (b : Book) (n role v : ℕ) where
       go false e = refl
 
 returns : tie.Need-returns
-returns c = λ b k. sym (no-role _ _ _ _ (c .if1 .taken))
+returns c =
+    let h : c .before .args .role ≡ 0 = omega arith in
+    λ b k. sym (no-role _ _ _ _ h)
 
 child-fits-requires : tie.Need-child-fits-requires
 child-fits-requires c κs = search needs
