@@ -136,7 +136,12 @@ pub fn first_bad_node(file: &[u8]) -> usize
     let mut node: usize = 0;
     while node < nodes.count {
         let at = nodes.start + 16 * node;
-        let row = kinds::row_of(&table, file[at]);
+        let kind = file[at];
+        // A kind past the table is bad. With the others alone left, a row is found by its index.
+        if 26 < kind {
+            return node;
+        }
+        let row = kinds::row_of(&table, kind);
         if !node_fits(file, regions.count, &sorts, node, at, row) {
             return node;
         }
