@@ -22,7 +22,8 @@ fn child_fits(sorts: &[u8; 1024], n: usize, sort: u8, v: usize) -> bool
     sorts[v] == sort
 }
 
-// Whether a field of node `n`, in this role, may hold `v`. Most fields are not named, and most that are name a child.
+// Whether a field of node `n`, in this role, may hold `v`. The roles are in the order of how
+// often they occur: most fields are not named, and most that are name a child.
 fn field_fits(regions: usize, sorts: &[u8; 1024], n: usize, role: u8, v: usize) -> bool
     requires { ⌜ n ≤ 1024 ⌝ }
     ensures { λ r. ⌜ ((b : Book) → Known b regions (now (sorts .entry)) n → r ≡ field-fits b n role v) ⌝ }
@@ -33,13 +34,19 @@ fn field_fits(regions: usize, sorts: &[u8; 1024], n: usize, role: u8, v: usize) 
     if role <= kinds::COMMAND {
         return child_fits(sorts, n, role, v);
     }
-    match role {
-        kinds::VARIABLE => v < 16,
-        kinds::TABLE | kinds::USER => v < 8,
-        kinds::REGION => v < regions,
-        kinds::RIGHT => 1 <= v && v <= 2,
-        _ => v == 0,
+    if role == kinds::VARIABLE {
+        return v < 16;
     }
+    if role <= kinds::USER {
+        return v < 8;
+    }
+    if role == kinds::REGION {
+        return v < regions;
+    }
+    if role == kinds::RIGHT {
+        return 1 <= v && v <= 2;
+    }
+    v == 0
 }
 
 // Whether the field k at byte `at` is 0 or named.

@@ -1,6 +1,5 @@
 -- `nodes::field_fits` meets its contract: each role has its own test.
 use mathlib.Core.Path.{_≡_, refl, sym, ap, _∙_}
-use mathlib.Core.Logic.{⊎-elim}
 use mathlib.Core.Bool.{Bool, true, false, _&&_}
 use mathlib.Core.List.{List}
 use Prim.Native.Nat.{ℕ, _≤_, _<_}
@@ -66,24 +65,30 @@ returns-2 : tie.Need-returns-2
 returns-2 c = λ b k. c .child-fits .ensures ∙ child-known b _ _ _ k ∙ sym (child-role _ _ _ _ (c .before .before .if1 .left) (c .before .if2 .taken))
 
 returns-3 : tie.Need-returns-3
-returns-3 c = λ b k. sym (variable-role _ _ _ _ (c .match .keys1))
+returns-3 c = λ b k. sym (variable-role _ _ _ _ (c .if3 .taken))
 
 returns-4 : tie.Need-returns-4
-returns-4 c = λ b k. ap (ltb (c .before .before .before .args .v)) (k .regions-are) ∙ sym (region-role _ _ _ _ (c .match .keys2))
+returns-4 c =
+    let role = c .before .before .before .before .args .role in
+    let above : 3 < role = omega arith in
+    let below : role < 6 = omega arith in
+    λ b k. sym (small-role _ _ _ _ above below)
 
 returns-5 : tie.Need-returns-5
-returns-5 c = λ b k. sym (right-role _ _ _ _ (c .before .match .keys3) ∙ pass (le-leb 1 _ (c .if3 .taken)) refl)
+returns-5 c = λ b k. ap (ltb (c .before .before .before .before .before .args .v)) (k .regions-are) ∙ sym (region-role _ _ _ _ (c .if5 .taken))
 
 returns-6 : tie.Need-returns-6
-returns-6 c =
-    let e = lt-leb 1 (c .before .before .before .before .args .v) (c .if3 .left) in
-    λ b k. e ∙ sym (right-role _ _ _ _ (c .before .match .keys3) ∙ fail _ e)
+returns-6 c = λ b k. sym (right-role _ _ _ _ (c .before .if6 .taken) ∙ pass (le-leb 1 _ (c .if7 .taken)) refl)
 
 returns-7 : tie.Need-returns-7
-returns-7 c = λ b k. sym (small-role _ _ _ _ (omega arith) (c .if5 .taken))
+returns-7 c =
+    let e = lt-leb 1 (c .before .before .before .before .before .before .before .args .v) (c .if7 .left) in
+    λ b k. e ∙ sym (right-role _ _ _ _ (c .before .if6 .taken) ∙ fail _ e)
 
 returns-8 : tie.Need-returns-8
-returns-8 c = λ b k. sym (past-roles _ _ _ _ (⊎-elim (λ w. omega arith) (λ w. omega arith) (c .if4 .came)))
+returns-8 c =
+    let above : 7 < c .before .before .before .before .before .before .args .role = omega arith in
+    λ b k. sym (past-roles _ _ _ _ above)
 
 pub field-fits-spec : {M : Type 1} → statement M
 field-fits-spec =
