@@ -1,5 +1,6 @@
 // The commands that run no other command.
 use machine::Ran;
+use machine::Script;
 ghost use mathlib.Core.Path.{_≡_};
 ghost use mathlib.Core.Bool.{false};
 ghost use Rattle.book.specs.Layout.{decode};
@@ -11,7 +12,7 @@ ghost use Rattle.actions.specs.Acting.{Acts};
 
 // Does what a command says that is neither 18 to 20, which enter others, nor 21 or 22, which fire triggers.
 pub fn act(
-    file: &[u8; 21380],
+    file: &Script,
     nodes: usize,
     costs: &[u32; 27],
     public: &[u64; 8],

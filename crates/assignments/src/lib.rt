@@ -1,5 +1,6 @@
 // Commands that write variables: assignment and raise.
 use machine::Ran;
+use machine::Script;
 use machine::Value;
 ghost use mathlib.Core.Path.{_≡_};
 ghost use Prim.Native.Nat.{_+_, _*_, _≤_, _<_};
@@ -24,7 +25,7 @@ fn store_variable(vars: &mut [i32], tags: &mut [u64], p: usize, amount: i32, lab
 
 // 17: variable p becomes a. Stop 25 where the context is not within the variable's old label.
 pub fn assign(
-    file: &[u8; 21380],
+    file: &Script,
     nodes: usize,
     costs: &[u32; 27],
     n: usize,
@@ -72,7 +73,7 @@ pub fn assign(
 
 // 26: variable p is raised by region a, under the same test.
 pub fn raise(
-    file: &[u8; 21380],
+    file: &Script,
     nodes: usize,
     costs: &[u32; 27],
     n: usize,

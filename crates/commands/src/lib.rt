@@ -2,6 +2,7 @@
 use machine::Outcome;
 use machine::Posted;
 use machine::Ran;
+use machine::Script;
 use machine::Value;
 use triggers::Fitting;
 ghost use mathlib.Core.Path.{_≡_};
@@ -41,7 +42,7 @@ pub struct Head {
 
 // Executes command `n`. A sequence is a loop over its list of commands: a long list needs one frame, and the one call of `enter` is compiled in place.
 pub fn exec(
-    file: &[u8; 21380],
+    file: &Script,
     nodes: usize,
     costs: &[u32; 27],
     public: &[u64; 8],
@@ -108,7 +109,7 @@ pub fn exec(
 }
 
 // 18, a then b: its cost is paid, a is entered, and b follows. Any other command is entered itself, and pays there.
-fn head_of(file: &[u8; 21380], nodes: usize, costs: &[u32; 27], n: usize, left: u32) -> Head
+fn head_of(file: &Script, nodes: usize, costs: &[u32; 27], n: usize, left: u32) -> Head
     requires { ⌜ Ready (now file) nodes (now costs) ⌝ }
     requires { ⌜ Node command (now file) n ⌝ }
     ensures { λ r. ⌜ Heads (node-at (decode (now (file .entry))) n) n left (getD (now (costs .entry)) 18 0) r ⌝ }
@@ -141,7 +142,7 @@ fn head_of(file: &[u8; 21380], nodes: usize, costs: &[u32; 27], n: usize, left: 
 
 // Enters one command: pays its cost, or stops with 21, and does what its kind says. A sequence in first place is a list of its own.
 fn enter(
-    file: &[u8; 21380],
+    file: &Script,
     nodes: usize,
     costs: &[u32; 27],
     public: &[u64; 8],
@@ -301,7 +302,7 @@ fn enter(
 
 // 19: if a nonzero then b else c; inside, the context gains the condition's label.
 fn branch(
-    file: &[u8; 21380],
+    file: &Script,
     nodes: usize,
     costs: &[u32; 27],
     public: &[u64; 8],
@@ -368,7 +369,7 @@ fn branch(
 
 // 20: while a nonzero do b, a loop; its cost is paid anew for each test, and the context has the labels of all tests so far.
 fn repeat(
-    file: &[u8; 21380],
+    file: &Script,
     nodes: usize,
     costs: &[u32; 27],
     public: &[u64; 8],
@@ -448,7 +449,7 @@ fn repeat(
 
 // The test of 19 and 20: a nonzero leads to b; zero leads an if to c, and a while to its end.
 fn decide(
-    file: &[u8; 21380],
+    file: &Script,
     nodes: usize,
     costs: &[u32; 27],
     n: usize,
@@ -491,7 +492,7 @@ fn decide(
 }
 
 // Where the value of its test leads an if or a while.
-fn led(file: &[u8; 21380], nodes: usize, n: usize, answer: Value) -> Next
+fn led(file: &Script, nodes: usize, n: usize, answer: Value) -> Next
     requires { ⌜ Runnable (now file) × (nodes ≡ section (now file) 3 .start) × (n < count (now file) 3) ⌝ }
     ensures { λ r. ⌜ r ≡ leads (node-at (decode (now (file .entry))) n) answer ⌝ }
 {
@@ -542,7 +543,7 @@ fn pay(body: Ran, n: usize, costs: &[u32; 27]) -> Ran
 
 // 21 put and 22 clear (event 1 and 2): the key and the amount, the write, and the triggers in context plus key label.
 fn post(
-    file: &[u8; 21380],
+    file: &Script,
     nodes: usize,
     costs: &[u32; 27],
     public: &[u64; 8],
@@ -617,7 +618,7 @@ fn post(
 // Runs the triggers from number `t` on that fit the write of the cell at `place`, by number, a turn for each; a trigger's writes fire only those
 // above it.
 fn fire(
-    file: &[u8; 21380],
+    file: &Script,
     nodes: usize,
     costs: &[u32; 27],
     public: &[u64; 8],

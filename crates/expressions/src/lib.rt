@@ -1,4 +1,5 @@
 // Expressions: evaluated by recursion over node number. Labels are joined to one that is lent, so that none is copied on the way up.
+use machine::Script;
 use machine::Value;
 use machine::Valued;
 ghost use mathlib.Core.Path.{_≡_};
@@ -49,7 +50,7 @@ fn combined(kind: u8, a: i32, b: i32) -> i64
 
 // Evaluates expression `n`: pays its cost, or stops with 21, and gives what its kind says.
 pub fn eval(
-    file: &[u8; 21380],
+    file: &Script,
     nodes: usize,
     costs: &[u32; 27],
     n: usize,
@@ -88,7 +89,7 @@ pub fn eval(
 
 // 1 a constant, 2 a variable, whose label is joined to `label`.
 fn leaf(
-    file: &[u8; 21380],
+    file: &Script,
     nodes: usize,
     costs: &[u32; 27],
     n: usize,
@@ -128,7 +129,7 @@ fn leaf(
 
 // Evaluates expression `n` and joins its label to `label`. 3 to 6 have two parts.
 fn join(
-    file: &[u8; 21380],
+    file: &Script,
     nodes: usize,
     costs: &[u32; 27],
     n: usize,
@@ -213,7 +214,7 @@ fn join(
 
 // The same for a part of another: most are leaves, and are evaluated without a call of `join`, which has a large frame.
 fn part(
-    file: &[u8; 21380],
+    file: &Script,
     nodes: usize,
     costs: &[u32; 27],
     n: usize,
@@ -249,7 +250,7 @@ fn part(
 
 // 8 to 11: four bounds, and the cells of a table in their box. The loop calls `part` from one place: from four, it would not be in line.
 fn query(
-    file: &[u8; 21380],
+    file: &Script,
     nodes: usize,
     costs: &[u32; 27],
     n: usize,

@@ -1,5 +1,6 @@
 // Commands that change the rights: grant and revoke.
 use machine::Ran;
+use machine::Script;
 ghost use mathlib.Core.Path.{_≡_};
 ghost use mathlib.Core.Bool.{true};
 ghost use mathlib.Core.List.{_∷_, _++_};
@@ -62,7 +63,7 @@ fn record_kind(kind: u8, right: u8) -> u8
 }
 
 // Grants or revokes as the node at `at` says, in the sets of one right, 1 read or 2 write, and writes the record of it at the start of `rest`.
-fn alter(file: &[u8; 21380], at: usize, right: u8, sets: &mut [[u64; 8]; 8], rest: &mut [u8])
+fn alter(file: &Script, at: usize, right: u8, sets: &mut [[u64; 8]; 8], rest: &mut [u8])
     requires { ⌜ Runnable (now file) × (at + 16 ≤ length (now file)) ⌝ }
     requires { ⌜ (byte (now file) (at + 1) < 8) × (le16 (now file) (at + 2) < count (now file) 1) ⌝ }
     requires { ⌜ (right ≤ 2) × (8 ≤ length (now rest)) ⌝ }
@@ -83,7 +84,7 @@ fn alter(file: &[u8; 21380], at: usize, right: u8, sets: &mut [[u64; 8]; 8], res
 
 // 24 grant and 25 revoke: region a for user p, in the read sets or the write sets. Stops 28, 29 and 30.
 pub fn change(
-    file: &[u8; 21380],
+    file: &Script,
     nodes: usize,
     costs: &[u32; 27],
     public: &[u64; 8],

@@ -48,8 +48,11 @@ pub struct Variables {
     pub tags: [u64; 128],
 }
 
+// A book that is run: the end of an array that is as long as the longest accepted book.
+pub type Script = [u8; 21380];
+
 // Region `region` of an accepted book.
-fn region_of(file: &[u8; 21380], region: usize) -> regions::Region
+fn region_of(file: &Script, region: usize) -> regions::Region
     requires { ⌜ Runnable (now file) × (region < count (now file) 1) ⌝ }
     ensures { λ r. ⌜ (r ≡ region-of (getD (script-of (now (file .entry)) .regions) region no-region)) × (r .table < 8) ⌝ }
 {
@@ -58,7 +61,7 @@ fn region_of(file: &[u8; 21380], region: usize) -> regions::Region
 }
 
 // The places of region `region` of an accepted book.
-pub fn region_places(file: &[u8; 21380], region: usize) -> [u64; 8]
+pub fn region_places(file: &Script, region: usize) -> [u64; 8]
     requires { ⌜ Runnable (now file) × (region < count (now file) 1) ⌝ }
     ensures { λ r. ⌜ r ≡ region-places (script-of (now (file .entry))) region ⌝ }
 {
@@ -66,7 +69,7 @@ pub fn region_places(file: &[u8; 21380], region: usize) -> [u64; 8]
 }
 
 // Whether `place` is one of them.
-pub fn region_holds(file: &[u8; 21380], region: usize, place: usize) -> bool
+pub fn region_holds(file: &Script, region: usize, place: usize) -> bool
     requires { ⌜ Runnable (now file) × (region < count (now file) 1) × (place < 512) ⌝ }
     ensures { λ r. ⌜ r ≡ has (region-places (script-of (now (file .entry))) region) place ⌝ }
 {

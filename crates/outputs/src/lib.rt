@@ -1,5 +1,6 @@
 // The command out: a value told to a user, in the trace.
 use machine::Ran;
+use machine::Script;
 use machine::Value;
 ghost use mathlib.Core.Path.{_≡_};
 ghost use Rattle.book.specs.Layout.{decode};
@@ -11,7 +12,7 @@ ghost use Rattle.machine.specs.Promises.{Tells};
 
 // 23: out a to user p. Stop 27 where the user may not read it, 30 where the trace is full.
 pub fn out(
-    file: &[u8; 21380],
+    file: &Script,
     nodes: usize,
     costs: &[u32; 27],
     public: &[u64; 8],

@@ -1,6 +1,7 @@
 // The programs of a book, one after another.
 use machine::Outcome;
 use machine::Ran;
+use machine::Script;
 ghost use Prim.Native.Nat.{_<_};
 ghost use Rattle.book.specs.Layout.{count};
 ghost use Rattle.machine.specs.Ready.{Lent};
@@ -10,7 +11,7 @@ ghost use Rattle.programs.specs.Programs.{Program, Programs};
 
 // Runs program `i` with sixteen variables 0 of empty label and the empty context.
 fn program(
-    file: &[u8; 21380],
+    file: &Script,
     nodes: usize,
     costs: &[u32; 27],
     public: &[u64; 8],
@@ -60,7 +61,7 @@ fn program(
 
 // Runs the programs from number `i` on; a stop ends the whole run.
 pub fn programs(
-    file: &[u8; 21380],
+    file: &Script,
     nodes: usize,
     costs: &[u32; 27],
     public: &[u64; 8],

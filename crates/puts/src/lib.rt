@@ -1,5 +1,6 @@
 // Put and clear up to the triggers that they fire.
 use machine::Posted;
+use machine::Script;
 use machine::Value;
 use machine::Valued;
 ghost use mathlib.Core.Path.{_≡_};
@@ -27,7 +28,7 @@ pub struct Posting {
 
 // The amount that a put writes, or 0 of empty label for a clear.
 fn new_amount(
-    file: &[u8; 21380],
+    file: &Script,
     nodes: usize,
     costs: &[u32; 27],
     n: usize,
@@ -86,7 +87,7 @@ fn unwritten(answer: Value, left: u32) -> Posting
 
 // 21 put and 22 clear (event 1 and 2): the key and the amount, and the write.
 pub fn post(
-    file: &[u8; 21380],
+    file: &Script,
     nodes: usize,
     costs: &[u32; 27],
     n: usize,

@@ -1,4 +1,5 @@
 // Triggers: whether one fits a write, and the variables with which it runs.
+use machine::Script;
 use machine::Variables;
 ghost use mathlib.Core.Path.{_≡_};
 ghost use Prim.Native.Nat.{_-_, _<_};
@@ -16,7 +17,7 @@ pub enum Fitting {
 }
 
 // Whether trigger `t` fits the write of the cell at `place`: its event, and its region holds the place.
-fn fits(file: &[u8; 21380], triggers: book::Section, t: usize, event: u8, place: usize) -> bool
+fn fits(file: &Script, triggers: book::Section, t: usize, event: u8, place: usize) -> bool
     requires { ⌜ Runnable (now file) × (triggers ≡ section (now file) 5) × (t < count (now file) 5) × (place < 512) ⌝ }
     ensures { λ r. ⌜ r ≡ fitting (script-of (now (file .entry))) event place (trigger-at (script-of (now (file .entry))) t) ⌝ }
 {
@@ -29,7 +30,7 @@ fn fits(file: &[u8; 21380], triggers: book::Section, t: usize, event: u8, place:
 }
 
 // The first trigger from number `t` on that fits the write of the cell at `place`.
-pub fn next_fitting(file: &[u8; 21380], t: usize, event: u8, place: usize) -> Fitting
+pub fn next_fitting(file: &Script, t: usize, event: u8, place: usize) -> Fitting
     requires { ⌜ Runnable (now file) × (place < 512) ⌝ }
     ensures { λ r. ⌜ r ≡ first-fitting (now (file .entry)) event place (count (now (file .entry)) 5 - t) t ⌝ }
 {
