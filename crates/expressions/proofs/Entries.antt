@@ -1,4 +1,4 @@
--- An expression node of an accepted file, as the code that evaluates it meets it. Assumes nothing.
+-- An expression node of a book that is run, as the code that evaluates it meets it. Assumes nothing.
 use mathlib.Core.Path.{_≡_, refl, sym, ap, _∙_}
 use mathlib.Core.List.{List}
 use mathlib.Core.Bool.{Bool, true, false, cond, _||_}

@@ -1,4 +1,4 @@
--- What acceptance tells of a trigger and of a program that are being run. Assumes nothing.
+-- What is known of a trigger and of a program that are being run. Assumes nothing.
 use mathlib.Core.Path.{_≡_, sym, ap}
 use mathlib.Core.List.{List}
 use mathlib.Core.Bool.{true}

@@ -51,7 +51,7 @@ pub struct Variables {
 // A book that is run: the end of an array that is as long as the longest accepted book.
 pub type Script = [u8; 21380];
 
-// Region `region` of an accepted book.
+// Region `region` of a book that is run.
 fn region_of(file: &Script, region: usize) -> regions::Region
     requires { ⌜ Runnable (now file) × (region < count (now file) 1) ⌝ }
     ensures { λ r. ⌜ (r ≡ region-of (getD (script-of (now (file .entry)) .regions) region no-region)) × (r .table < 8) ⌝ }
@@ -60,7 +60,7 @@ fn region_of(file: &Script, region: usize) -> regions::Region
     book::region_at(file, regions.start + 8 * region)
 }
 
-// The places of region `region` of an accepted book.
+// The places of region `region` of a book that is run.
 pub fn region_places(file: &Script, region: usize) -> [u64; 8]
     requires { ⌜ Runnable (now file) × (region < count (now file) 1) ⌝ }
     ensures { λ r. ⌜ r ≡ region-places (script-of (now (file .entry))) region ⌝ }
