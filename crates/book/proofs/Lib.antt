@@ -7,3 +7,4 @@ pub mod Scans
 pub mod Verdicts
 pub mod Accepted
 pub mod Tabulate
+pub mod Costs

@@ -5,6 +5,7 @@ use Prim.Native.Nat.{ℕ, zero, suc, pred, _+_, _-_, _*_, _≤_, _<_}
 use native.Mathlib.Omega.{arith}
 use lib.IntN.{ℤ}
 use lib.ListN.{length}
+use Rattle.book.specs.Refusals.{node-at}
 use Rattle.monitor.specs.Labelled.{Label, bottom, Lab}
 use Rattle.monitor.specs.Run.{State, Rec, stop, M, next, spend, pay}
 use Rattle.monitor.specs.Rules.{cost-at, exec}
@@ -14,7 +15,7 @@ use Rattle.machine.specs.Promises.{ran, ended, Does, DoesAside, Enters, Command
 use Rattle.machine.specs.declared.Outcome.the-variants.{Stopped}
 use Rattle.machine.specs.declared.Ran.{Ran}
 use Rattle.machine.proofs.Traces.{with-length, with-both}
-use Rattle.monitor.proofs.Fuel.{cost-positive}
+use Rattle.book.proofs.Costs.{cost-positive}
 use Rattle.machine.proofs.Runs.{pay-passes, pay-fails, after-none, quietly}
 
 -- ---- the trace
@@ -56,7 +57,7 @@ entry-fails c i s k h = ap (λ o. next o (λ a. k)) (pay-fails c i s h)
 module _ (file : List ℕ) (ctx : Label) (user above n : ℕ) {cost : ℕ} (e : cost ≡ cost-at (script-of file) n) where
   -- what is left of the budget falls at each entry
   pub entry-costs : 1 ≤ cost
-  entry-costs = omega (arith, cost-positive (script-of file) n)
+  entry-costs = omega (arith, cost-positive (node-at (script-of file) n .kind))
 
   -- a node is entered: its cost is paid, and one fuel is spent
   pub entered : (vars : ℕ → Lab ℤ) (x : Store) (left used fuel : ℕ) → cost ≤ left → left ≤ fuel

@@ -4,10 +4,10 @@ use mathlib.Core.List.{List}
 use mathlib.Core.Bool.{true}
 use Prim.Native.Nat.{ℕ}
 use Rattle.monitor.specs.Call.{Memory, Result, call}
-use Rattle.monitor.specs.TwoBooks.{Group, accepted, finished, reach, DifferOutside}
-use Rattle.monitor.specs.Claims.{LearnsNothing}
-use Rattle.monitor.proofs.NoLabels as rules
-use Rattle.monitor.proofs.Demand3 as two-calls
+use Rattle.claims.specs.TwoBooks.{Group, accepted, finished, reach, DifferOutside}
+use Rattle.claims.specs.Claims.{LearnsNothing}
+use Rattle.claims.proofs.NoLabels as rules
+use Rattle.claims.proofs.Demand3 as two-calls
 use Rattle.entry.specs.Claims.{NoLabelsSame, Demand3}
 
 pub no-labels-same : NoLabelsSame

@@ -5,8 +5,8 @@ use mathlib.Core.List.{List}
 use mathlib.Core.Bool.{true, false}
 use Prim.Native.Nat.{ℕ}
 use Rattle.monitor.specs.Call.{Memory, call}
-use Rattle.monitor.specs.TwoBooks.{Group, accepted, finished, reach, DifferOutside}
-use Rattle.monitor.specs.Claims.{LearnsNothing}
+use Rattle.claims.specs.TwoBooks.{Group, accepted, finished, reach, DifferOutside}
+use Rattle.claims.specs.Claims.{LearnsNothing}
 use Rattle.monitor.specs.declared.Answer.{Answer}
 use Rattle.entry.specs.Entry.{result, Runs}
 

@@ -21,8 +21,7 @@ use Rattle.monitor.specs.Labelled.{Lab, lit, lift, lift2, via, under}
 use Rattle.monitor.specs.Run.{Cell, Out, after, next, each, when, guard, need, update, pay, set-var, set-cell, tell, sixteen, restore, own}
 use Rattle.monitor.specs.Syntax.{exp-of, cmd-of}
 use Rattle.monitor.specs.Rules.{fits-32, equals, less-than, key, from-to, box-of, in-box, gather, seen, amounts-of, count-of, sum-of, best, best-of, aggregate, ranged, expr, within-label, choose, key-place, in-table, posting, trigger-vars, numbers, region-places, granted, revoked, fitting, trigger-run, fire, write-cell, command, eval, exec, program, run}
-use Rattle.monitor.specs.Call.{Memory, Result, values, record-bytes, trace-bytes, script, rows, start-rights, start-state, run-book, call-verdict, memory-after, result-of, answered, call}
-use Rattle.monitor.specs.TwoBooks.{cut, trace-records}
+use Rattle.monitor.specs.Call.{Memory, Result, values, record-bytes, trace-bytes, script, rows, start-rights, start-state, run-book, call-verdict, memory-after, result-of, answered, call, cut, trace-records}
 use Rattle.monitor.specs.Tables.{Shown, Row, lent, shown, called, book-answered, ran, Shows}
 use Rattle.monitor.specs.declared.Answer.the-variants as answers
 use Rattle.monitor.proofs.Start.{start-cell, start-is}

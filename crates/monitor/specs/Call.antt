@@ -4,7 +4,7 @@ use mathlib.Core.Bool.{Bool, _&&_}
 use Prim.Native.Nat.{ℕ, zero, suc, _-_, _*_, _/_}
 use lib.Dec.{eqb, leb}
 use lib.IntN.{ℤ, pos}
-use lib.ListN.{length, getD, drop}
+use lib.ListN.{length, getD, take, drop}
 use Rattle.places.specs.Sets.{has, set-of}
 use Rattle.labels.specs.Labels.{label-at}
 use Rattle.book.specs.Bytes.{four, bits32}
@@ -119,3 +119,14 @@ answered labels file budget m verdicts.Accepted = result-of budget m (run-book l
 
 unfoldable pub call : Bool → List ℕ → ℕ → Memory → Result
 call labels file budget m = answered labels file budget m (call-verdict file budget m)
+
+-- ---- the trace that a call leaves
+
+-- n records of eight bytes
+unfoldable pub cut : ℕ → List ℕ → List (List ℕ)
+cut zero s = []
+cut (suc n) s = take 8 s ∷ cut n (drop 8 s)
+
+-- its records: only the bytes that the answer counts as written
+unfoldable pub trace-records : Result → List (List ℕ)
+trace-records r = cut (values (r .answer) .bytes / 8) (r .memory .trace)

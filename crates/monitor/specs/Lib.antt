@@ -3,8 +3,9 @@ pub mod Run
 pub mod Syntax
 pub mod Rules
 pub mod Call
-pub mod TwoBooks
-pub mod Claims
 pub mod Tables
 pub mod Marked
 pub mod Examples
+pub mod Samples
+pub mod RunClauses
+pub mod RuleClauses

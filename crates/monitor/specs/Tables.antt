@@ -9,8 +9,7 @@ use Rattle.book.specs.Records.{CellRecord, RegionRecord, RightRecord, NodeRecor
 use Rattle.book.specs.Refusals.{book-verdict}
 use Rattle.book.specs.declared.Verdict.{Verdict}
 use Rattle.book.specs.declared.Verdict.the-variants as verdicts
-use Rattle.monitor.specs.Call.{Memory, Result, values, run-book, result-of, call}
-use Rattle.monitor.specs.TwoBooks.{trace-records}
+use Rattle.monitor.specs.Call.{Memory, Result, values, run-book, result-of, call, trace-records}
 use Rattle.monitor.specs.declared.Answer.the-variants.{Refused}
 use Rattle.monitor.specs.declared.Values.{Values}
 

@@ -5,10 +5,10 @@ use mathlib.Core.Logic.{_⊎_}
 use mathlib.Core.Bool.{Bool, true, false}
 use Prim.Native.Nat.{ℕ, _≤_}
 use Rattle.book.specs.Records.{Book}
 use Rattle.monitor.specs.Run.{State}
 use Rattle.monitor.specs.Rules.{run}
 use Rattle.monitor.specs.Call.{Memory, Result, call}
-use Rattle.monitor.specs.TwoBooks.{Group, accepted, finished, group-trace, Begins, reach, SameInside, DifferOutside, cells-in}
+use Rattle.claims.specs.TwoBooks.{Group, accepted, finished, group-trace, Begins, reach, SameInside, DifferOutside, cells-in}
 
 -- Fuel is enough: any two fuels that are at least what is left of the budget give the same run.
 abbrev pub FuelEnough : Type 0

@@ -11,20 +11,20 @@ use Rattle.book.specs.Records.{Book, SameScripts}
 use Rattle.book.specs.Layout.{decode}
 use Rattle.book.specs.declared.Verdict.{Verdict}
 use Rattle.book.specs.declared.Verdict.the-variants.{Accepted, Refused}
 use Rattle.monitor.specs.Labelled.{Label}
 use Rattle.monitor.specs.Run.{Out, done, stop}
 use Rattle.monitor.specs.Rules.{run}
 use Rattle.monitor.specs.Call.{Memory, record-bytes, script, start-cells, start-rights, start-state, run-book, call-verdict, memory-after, result-of, answered, call}
-use Rattle.monitor.specs.TwoBooks.{Group, accepted, finished, Begins, reach, InsideEither, SameInside, DifferOutside, cells-in}
-use Rattle.monitor.specs.Claims.{LearnsNothing, Demand3}
-use Rattle.monitor.proofs.Views.{records, end, is-done, seen-of, Begun}
-use Rattle.monitor.proofs.Steps.{Any}
+use Rattle.claims.specs.TwoBooks.{Group, accepted, finished, Begins, reach, InsideEither, SameInside, DifferOutside, cells-in}
+use Rattle.claims.specs.Claims.{LearnsNothing, Demand3}
+use Rattle.claims.proofs.Views.{records, end, is-done, seen-of, Begun}
+use Rattle.claims.proofs.Steps.{Any}
 use Rattle.monitor.proofs.Memory.{Eight, cells-kept}
 use Rattle.monitor.proofs.Start.{start-beyond, script-public, script-start}
-use Rattle.monitor.proofs.Sized.{Fine, fine-run, fine-end, fine-records}
-use Rattle.monitor.proofs.Traces.{call-seen, begins-bytes}
-use Rattle.monitor.proofs.Reach.{reach-public, reach-read, reach-gifts}
-use Rattle.monitor.proofs.TwoRuns.{Agree, two-runs}
+use Rattle.claims.proofs.Sized.{Fine, fine-run, fine-end, fine-records}
+use Rattle.claims.proofs.Traces.{call-seen, begins-bytes}
+use Rattle.claims.proofs.Reach.{reach-public, reach-read, reach-gifts}
+use Rattle.claims.proofs.TwoRuns.{Agree, two-runs}
 
 -- ---- one call
 

@@ -14,13 +14,13 @@ use Rattle.places.proofs.Sets.{within-trans, empty-within, within-union-left, w
 use Rattle.book.specs.Records.{Book}
 use Rattle.book.specs.Layout.{decode}
 use Rattle.book.specs.Start.{right-set, public-set, read-sets}
 use Rattle.monitor.specs.Labelled.{Label}
 use Rattle.monitor.specs.Run.{Out}
-use Rattle.monitor.specs.Call.{Memory, rows, script, result-of}
-use Rattle.monitor.specs.TwoBooks.{Group, trace-records, members-read, granted-to, reach}
-use Rattle.monitor.proofs.Views.{records, gift, gifts}
+use Rattle.monitor.specs.Call.{Memory, rows, script, result-of, trace-records}
+use Rattle.claims.specs.TwoBooks.{Group, members-read, granted-to, reach}
+use Rattle.claims.proofs.Views.{records, gift, gifts}
 use Rattle.book.proofs.Tabulate.{length-tabulate}
-use Rattle.monitor.proofs.Traces.{call-records, granted-is}
+use Rattle.claims.proofs.Traces.{call-records, granted-is}
 
 member-read : (g : Group) (b : Book) (n u : ℕ) → u < n → g u ≡ true → Within (rows (read-sets b) u) (members-read g b n)
 unfolding members-read

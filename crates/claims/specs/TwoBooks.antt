@@ -3,21 +3,20 @@ use mathlib.Core.Path.{_≡_}
 use mathlib.Core.List.{List, [], _∷_, _++_}
 use mathlib.Core.Logic.{_⊎_}
 use mathlib.Core.Bool.{Bool, true, false, _&&_, _||_, cond}
-use Prim.Native.Nat.{ℕ, zero, suc, _/_, _<_}
+use Prim.Native.Nat.{ℕ, zero, suc, _<_}
 use lib.Dec.{eqb}
-use lib.ListN.{take, drop}
 use Rattle.places.specs.Sets.{union, Within}
 use Rattle.book.specs.Bytes.{byte}
 use Rattle.book.specs.Kinds.{between}
 use Rattle.book.specs.Records.{Book, SameScripts}
 use Rattle.book.specs.Layout.{decode}
 use Rattle.book.specs.Start.{public-set, read-sets}
 use Rattle.monitor.specs.Labelled.{Label, bottom, Lab}
 use Rattle.monitor.specs.Run.{Cell}
 use Rattle.monitor.specs.Rules.{region-places}
-use Rattle.monitor.specs.Call.{Memory, Result, values, cells-of, start-cells, rows}
+use Rattle.monitor.specs.Call.{Memory, Result, trace-records, cells-of, start-cells, rows}
 use Rattle.monitor.specs.declared.Answer.{Answer}
 use Rattle.monitor.specs.declared.Answer.the-variants.{Refused, Stopped, Finished}
 
 -- a group: any set of users
 abbrev pub Group : Type 0
@@ -35,15 +34,6 @@ finished (Stopped number node cost bytes) = false
 finished (Finished cost bytes) = true
 
 -- ---- traces, as the calls leave them in lent memory
-
--- n records of eight bytes
-unfoldable pub cut : ℕ → List ℕ → List (List ℕ)
-cut zero s = []
-cut (suc n) s = take 8 s ∷ cut n (drop 8 s)
-
--- the records of a trace: only the bytes that the answer counts as written
-unfoldable pub trace-records : Result → List (List ℕ)
-trace-records r = cut (values (r .answer) .bytes / 8) (r .memory .trace)
 
 -- out records to members, and all records of kinds 2 to 5
 unfoldable pub visible : Group → List ℕ → Bool

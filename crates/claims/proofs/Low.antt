@@ -8,9 +8,9 @@ use lib.IntN.{ℤ}
 use borrow.Author.Tests.{eqb-true}
 use Rattle.places.specs.Sets.{union, within, Within}
 use Rattle.places.proofs.Sets.{within-trans, within-union-left, within-union-right}
 use Rattle.monitor.specs.Labelled.{Label, Lab, lift, lift2, via, under}
 use Rattle.monitor.specs.Run.{Cell, Rights, State, Rec, update, with-vars, with-cells}
-use Rattle.monitor.specs.TwoBooks.{Group}
+use Rattle.claims.specs.TwoBooks.{Group}
 
 -- a group, a set that holds its reach, and what a record gives it to read
 pub record View : Type 0 where

@@ -7,15 +7,15 @@ use lib.IntN.{ℤ}
 use Rattle.book.specs.Records.{Book}
 use Rattle.book.specs.declared.Verdict.{Verdict}
 use Rattle.book.specs.declared.Verdict.the-variants.{Accepted, Refused}
 use Rattle.monitor.specs.Labelled.{Label, Lab}
 use Rattle.monitor.specs.Run.{State, Rec, Out, done, stop, M, after, next, Test, inside, guard, with-vars, restore, own}
 use Rattle.monitor.specs.Rules.{Env, eval, exec, program, run}
 use Rattle.monitor.specs.Call.{Memory, run-book, result-of, answered, call, call-verdict}
-use Rattle.monitor.specs.TwoBooks.{finished}
-use Rattle.monitor.specs.Claims.{NoLabelsSame}
-use Rattle.monitor.proofs.Views.{is-done}
-use Rattle.monitor.proofs.Guards.{Guarded, passed, failed, guarded}
-use Rattle.monitor.proofs.Kept.{Relation, Kept, eaches, commands}
+use Rattle.claims.specs.TwoBooks.{finished}
+use Rattle.claims.specs.Claims.{NoLabelsSame}
+use Rattle.claims.proofs.Views.{is-done}
+use Rattle.claims.proofs.Guards.{Guarded, passed, failed, guarded}
+use Rattle.claims.proofs.Kept.{Relation, Kept, eaches, commands}
 
 -- where the first run is done, the second is the same
 abbrev Follows : Relation

@@ -7,14 +7,14 @@ use Prim.Native.Nat.{ℕ}
 use Rattle.places.specs.Sets.{Within}
 use Rattle.book.specs.Records.{Book}
 use Rattle.book.specs.Start.{public-set}
 use Rattle.monitor.specs.Labelled.{Label, Lab}
 use Rattle.monitor.specs.Run.{Cell, State, Rec, Out}
 use Rattle.monitor.specs.Rules.{run}
-use Rattle.monitor.specs.TwoBooks.{Group, InsideEither}
-use Rattle.monitor.proofs.Views.{records, end, is-done, seen-of, gift, gifts, Begun}
-use Rattle.monitor.proofs.Low.{Hidden, within?, Same, equal, hidden, same-inside, same-sym}
-use Rattle.monitor.proofs.Steps.{Match, both, first-stops, second-stops, beyond, Both}
-use Rattle.monitor.proofs.Flow.{view, pair-run}
+use Rattle.claims.specs.TwoBooks.{Group, InsideEither}
+use Rattle.claims.proofs.Views.{records, end, is-done, seen-of, gift, gifts, Begun}
+use Rattle.claims.proofs.Low.{Hidden, within?, Same, equal, hidden, same-inside, same-sym}
+use Rattle.claims.proofs.Steps.{Match, both, first-stops, second-stops, beyond, Both}
+use Rattle.claims.proofs.Flow.{view, pair-run}
 
 -- what two runs show a group
 pub record Agree (g : Group) (R : Label) (o o' : Out (Unit {0})) : Type 0 where

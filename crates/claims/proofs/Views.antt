@@ -5,10 +5,10 @@ use mathlib.Core.Bool.{Bool, true, false, _&&_, cond}
 use lib.Dec.{eqb}
 use Rattle.places.specs.Sets.{union}
 use Rattle.book.specs.Records.{Book}
 use Rattle.monitor.specs.Labelled.{Label, bottom}
 use Rattle.monitor.specs.Run.{State, Rec, said, changed, Out, done, stop}
 use Rattle.monitor.specs.Rules.{region-places}
-use Rattle.monitor.specs.TwoBooks.{Group}
+use Rattle.claims.specs.TwoBooks.{Group}
 
 -- the end of a run
 unfoldable pub records : {A : Type 0} → Out A → List Rec

@@ -8,14 +8,14 @@ use native.Mathlib.Omega.{arith}
 use lib.IntN.{ℤ}
 use borrow.Author.Tests.{leb-true, lt-leb}
 use Rattle.book.specs.Records.{Book}
-use Rattle.book.specs.Kinds.{between, cost-of}
 use Rattle.book.specs.Refusals.{node-at}
+use Rattle.book.proofs.Costs as kinds
 use Rattle.monitor.specs.Labelled.{bottom, Lab}
 use Rattle.monitor.specs.Run.{State, Rec, Halt, Out, done, stop, M, after, next, _>>=_, _>>_, Test, guard, with-vars, pay, restore, own}
 use Rattle.monitor.specs.Rules.{Env, cost-at, eval, exec, program, run}
-use Rattle.monitor.specs.Claims.{FuelEnough}
-use Rattle.monitor.proofs.Guards.{Guarded, passed, failed, guarded}
-use Rattle.monitor.proofs.Kept.{Relation, Kept, eaches, expressions, commands}
+use Rattle.claims.specs.Claims.{FuelEnough}
+use Rattle.claims.proofs.Guards.{Guarded, passed, failed, guarded}
+use Rattle.claims.proofs.Kept.{Relation, Kept, eaches, expressions, commands}
 
 -- a run that is done leaves at most n
 data Left {A : Type 0} (n : ℕ) : Out A → Type 0 where
@@ -76,13 +76,8 @@ kept labels n = record {
 
 -- ---- entering a node
 
-pub cost-positive : (b : Book) (i : ℕ) → 1 ≤ cost-at b i
-unfolding cost-of
-cost-positive b i = go (between 8 11 (node-at b i .kind))
-  where
-    go : (x : Bool) → 1 ≤ cond x 4 1
-    go true = omega arith
-    go false = omega arith
+cost-positive : (b : Book) (i : ℕ) → 1 ≤ cost-at b i
+cost-positive b i = kinds.cost-positive (node-at b i .kind)
 
 spend-pay : {n : ℕ} (b : Book) (i : ℕ) → Spend (suc n) n (Unit {0}) (pay (cost-at b i) i) (pay (cost-at b i) i)
 unfolding pay

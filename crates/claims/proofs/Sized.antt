@@ -17,16 +17,16 @@ use Rattle.regions.proofs.Regions.{length-region}
 use Rattle.book.specs.Records.{Book, region-of}
 use Rattle.book.specs.Kinds.{between}
 use Rattle.book.specs.Refusals.{no-region, is-zero}
 use Rattle.monitor.specs.Labelled.{Label, Lab, lit, lift, lift2, via, under}
 use Rattle.monitor.specs.Run.{Cell, Rights, State, Rec, said, changed, Halt, Out, done, stop, M, after, next, _>>=_, ret, look, each, when, Test, guard, need, commit, update, with-vars, pay, set-var, set-cell, tell, sixteen, restore, own}
 use Rattle.monitor.specs.Syntax.{Exp, const, var, add, minus, equal, less, query, Cmd, skip, assign, seq, branch, while, put, clear, out, grant, revoke, raise}
 use Rattle.monitor.specs.Rules.{Key, key, from-to, Box, box-of, in-box, gather, seen, ranged, expr, Env, within-label, choose, posting, trigger-vars, region-places, trigger-run, fire, write-cell, command, eval, exec, program, run}
 use Rattle.monitor.specs.Call.{script, start-cells, start-state, run-book}
-use Rattle.monitor.proofs.Views.{records, end}
-use Rattle.monitor.proofs.Steps.{Any}
-use Rattle.monitor.proofs.Guards.{Guarded, passed, failed, guarded}
+use Rattle.claims.proofs.Views.{records, end}
+use Rattle.claims.proofs.Steps.{Any}
+use Rattle.claims.proofs.Guards.{Guarded, passed, failed, guarded}
 use Rattle.monitor.proofs.Memory.{Eight}
 use Rattle.monitor.proofs.Start.{start-label, start-beyond}
 
 -- ---- labels
 

@@ -11,14 +11,14 @@ use Rattle.places.proofs.Sets.{within-trans, within-union-right, union-least, d
 use Rattle.book.specs.Records.{Book}
 use Rattle.book.specs.Refusals.{is-zero}
 use Rattle.book.specs.Start.{public-set}
 use Rattle.monitor.specs.Labelled.{Label, bottom, Lab, lift2, under}
 use Rattle.monitor.specs.Run.{Cell, held, Rights, State, changed, M, _>>=_, _>>_, ret, update}
 use Rattle.monitor.specs.Syntax.{Exp, const, var, add, minus, less, query, Cmd, skip, assign, seq, branch, while, put, clear, out, grant, revoke, raise}
 use Rattle.monitor.specs.Rules.{Key, key, from-to, Box, box-of, in-box, gather, seen, aggregate, ranged, expr, Env, within-label, choose, posting, trigger-vars, region-places, granted, revoked, trigger-run, fire, write-cell, command, eval, exec, program, run}
-use Rattle.monitor.specs.TwoBooks.{Group}
-use Rattle.monitor.proofs.Views.{seen-of, gift}
-use Rattle.monitor.proofs.Low.{View, Hidden, hidden-left, hidden-right, Same, equal, same-inside, same-lift, same-lift2, same-via, same-under, same-raised, same-update, Safe, Alike}
-use Rattle.monitor.proofs.Steps.{Still, Pair, Any, Both, stops, first-stops, second-stops, begun-nil, still-bind, pair-bind, pair-by, still-ret, pair-ret, still-look, pair-look, still-when, pair-when, still-each, pair-each, still-need, pair-need, still-pay, pair-pay, still-set-var, pair-set-var, still-set-cell, pair-set-cell, still-said, pair-said, pair-changed, still-own, pair-own}
+use Rattle.claims.specs.TwoBooks.{Group}
+use Rattle.claims.proofs.Views.{seen-of, gift}
+use Rattle.claims.proofs.Low.{View, Hidden, hidden-left, hidden-right, Same, equal, same-inside, same-lift, same-lift2, same-via, same-under, same-raised, same-update, Safe, Alike}
+use Rattle.claims.proofs.Steps.{Still, Pair, Any, Both, stops, first-stops, second-stops, begun-nil, still-bind, pair-bind, pair-by, still-ret, pair-ret, still-look, pair-look, still-when, pair-when, still-each, pair-each, still-need, pair-need, still-pay, pair-pay, still-set-var, pair-set-var, still-set-cell, pair-set-cell, still-said, pair-said, pair-changed, still-own, pair-own}
 
 -- ---- expressions
 

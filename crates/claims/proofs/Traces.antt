@@ -11,13 +11,13 @@ use lib.Seq.{take-at, drop-at}
 use Rattle.places.specs.Sets.{union}
 use Rattle.book.specs.Bytes.{byte}
 use Rattle.book.specs.Records.{Book}
 use Rattle.monitor.specs.Labelled.{bottom}
 use Rattle.monitor.specs.Run.{Rec, said, changed, Out, done, stop}
 use Rattle.monitor.specs.Rules.{region-places}
-use Rattle.monitor.specs.Call.{Memory, values, record-bytes, trace-bytes, script, memory-after, result-of}
-use Rattle.monitor.specs.TwoBooks.{Group, cut, trace-records, visible, visible-in, group-trace, Begins, granted-to}
-use Rattle.monitor.proofs.Views.{records, sees, keep, seen-of, gift, gifts, Begun}
-use Rattle.monitor.proofs.Sized.{Proper, out-record, rights-record, AllProper, none, more}
+use Rattle.monitor.specs.Call.{Memory, values, record-bytes, trace-bytes, script, memory-after, result-of, cut, trace-records}
+use Rattle.claims.specs.TwoBooks.{Group, visible, visible-in, group-trace, Begins, granted-to}
+use Rattle.claims.proofs.Views.{records, sees, keep, seen-of, gift, gifts, Begun}
+use Rattle.claims.proofs.Sized.{Proper, out-record, rights-record, AllProper, none, more}
 
 length-record : (r : Rec) → length (record-bytes r) ≡ 8
 unfolding record-bytes

@@ -8,12 +8,12 @@ use Prim.Native.Nat.{ℕ}
 use lib.IntN.{ℤ}
 use Rattle.places.specs.Sets.{Within}
 use Rattle.places.proofs.Sets.{within-trans, empty-within, within-union-left, within-union-right, union-least}
 use Rattle.monitor.specs.Labelled.{Label, bottom, Lab}
 use Rattle.monitor.specs.Run.{Cell, Rights, State, Rec, said, Halt, Out, done, stop, M, after, next, _>>=_, ret, look, each, when, Test, guard, need, commit, with-vars, recorded, pay, set-var, set-cell, tell, restore, own}
-use Rattle.monitor.specs.TwoBooks.{Group}
-use Rattle.monitor.proofs.Views.{records, sees, keep, seen-of, gifts, Begun}
-use Rattle.monitor.proofs.Guards.{Guarded, passed, failed, guarded}
-use Rattle.monitor.proofs.Low.{View, Hidden, within?, hidden-up, hidden-left, Same, equal, hidden, same-update, same-written, Safe, Alike, alike-sym, alike-trans, alike-first, alike-spent, alike-vars, alike-cells}
+use Rattle.claims.specs.TwoBooks.{Group}
+use Rattle.claims.proofs.Views.{records, sees, keep, seen-of, gifts, Begun}
+use Rattle.claims.proofs.Guards.{Guarded, passed, failed, guarded}
+use Rattle.claims.proofs.Low.{View, Hidden, within?, hidden-up, hidden-left, Same, equal, hidden, same-update, same-written, Safe, Alike, alike-sym, alike-trans, alike-first, alike-spent, alike-vars, alike-cells}
 
 -- ---- what a run shows
 

@@ -1,0 +1,13 @@
+pub mod Views
+pub mod Guards
+pub mod Low
+pub mod Steps
+pub mod Flow
+pub mod TwoRuns
+pub mod Kept
+pub mod Fuel
+pub mod NoLabels
+pub mod Sized
+pub mod Traces
+pub mod Reach
+pub mod Demand3

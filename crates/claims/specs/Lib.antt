@@ -1,0 +1,2 @@
+pub mod TwoBooks
+pub mod Claims

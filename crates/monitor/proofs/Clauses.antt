@@ -1,0 +1,144 @@
+-- The clauses of the rules give what is said of them, by computation. Assumes nothing.
+use mathlib.Core.Path.{refl}
+use Rattle.monitor.specs.RunClauses.{RunClauses}
+use Rattle.monitor.specs.RuleClauses.{RuleClauses}
+use Rattle.monitor.proofs.Tables.{called-quick}
+
+pub run-clauses : RunClauses
+unfolding called-quick
+run-clauses = record {
+  literal = refl;
+  lifted = refl;
+  lifted-both = refl;
+  found-by = refl;
+  in-context = refl;
+  holding = refl;
+  not-there = refl;
+  in-turn = refl;
+  in-turn-left = refl;
+  stop-last = refl;
+  stop-last-left = refl;
+  stop-first = refl;
+  stop-first-left = refl;
+  each-in-order = refl;
+  when-holds = refl;
+  when-not = refl;
+  when-not-left = refl;
+  tests = refl;
+  guard-passes = refl;
+  guard-stops = refl;
+  guard-stops-left = refl;
+  need-passes = refl;
+  need-stops = refl;
+  updated = refl;
+  spent = refl;
+  spent-else = (refl, refl, refl);
+  new-vars = (refl, refl, refl, refl);
+  new-cells = (refl, refl, refl, refl);
+  new-rights = (refl, refl, refl, refl);
+  paid = (refl, refl);
+  not-paid = (refl, refl);
+  var-set = (refl, refl);
+  var-not-set = (refl, refl);
+  var-unlabelled = refl;
+  cell-set = (refl, refl);
+  cell-not-set = (refl, refl);
+  cell-unlabelled = refl;
+  room-for-one = (refl, refl, refl);
+  no-room = (refl, refl);
+  variables = refl;
+  own-vars = refl;
+  vars-back = refl;
+  vars-back-left = refl;
+  vars-back-stopped = (refl, refl);
+}
+
+pub rule-clauses : RuleClauses
+unfolding called-quick
+rule-clauses = record {
+  limits = refl;
+  same-numbers = refl;
+  lesser-numbers = refl;
+  keys = refl;
+  boxes = refl;
+  corners = refl;
+  outside-bounds = refl;
+  crossed-bounds = refl;
+  gathered = refl;
+  gathered-odd = refl;
+  seen-last = refl;
+  seen-first = refl;
+  aggregates = refl;
+  of-nothing = refl;
+  in-range = refl;
+  out-of-range = refl;
+  constants = refl;
+  variables = refl;
+  sums = refl;
+  differences = refl;
+  equalities = refl;
+  comparisons = refl;
+  queries = refl;
+  sums-in-range = refl;
+  differences-in-range = refl;
+  inside-gains = refl;
+  chosen = refl;
+  places = refl;
+  keys-in-table = refl;
+  posted = refl;
+  no-key = refl;
+  no-right = refl;
+  no-right-there = refl;
+  not-within = refl;
+  not-within-passed = refl;
+  trigger-variables = refl;
+  numbered = refl;
+  regions = refl;
+  fits = refl;
+  trigger-runs = refl;
+  trigger-reads = refl;
+  trigger-leaves = refl;
+  fired = refl;
+  grants-read = refl;
+  grants-read-only = refl;
+  grants-write = refl;
+  grants-write-only = refl;
+  revokes-read = refl;
+  revokes-read-only = refl;
+  revokes-write = refl;
+  revokes-write-only = refl;
+  skips = refl;
+  assigns = (refl, refl);
+  assigns-not = refl;
+  assigns-unlabelled = refl;
+  sequences = refl;
+  branches = refl;
+  branches-else = refl;
+  repeats = refl;
+  repeats-no-more = refl;
+  puts = (refl, refl);
+  puts-not = refl;
+  clears = (refl, refl);
+  tells = refl;
+  tells-not = refl;
+  tells-not-in-context = refl;
+  tells-unlabelled = refl;
+  tells-rights = refl;
+  tells-no-room = refl;
+  grants = refl;
+  grants-reading = refl;
+  grants-writing = refl;
+  grants-not = refl;
+  grants-not-public = refl;
+  grants-no-room = refl;
+  grants-unlabelled = refl;
+  raises = refl;
+  raises-not = refl;
+  costs = refl;
+  out-of-fuel = (refl, refl);
+  evaluates = (refl, refl);
+  evaluates-children = (refl, refl);
+  evaluates-not = refl;
+  executes = (refl, refl);
+  executes-not = refl;
+}
