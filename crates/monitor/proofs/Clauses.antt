@@ -1,7 +1,13 @@
--- The clauses of the rules give what is said of them, by computation. Assumes nothing.
+-- The clauses of the rules and of a call give what is said of them, by computation. Assumes nothing.
 use mathlib.Core.Path.{refl}
+use Rattle.places.specs.Sets.{single}
+use Rattle.labels.specs.Labels.{own-labels}
+use Rattle.book.specs.Start.{start-amounts, start-presence}
+use Rattle.monitor.specs.Call.{cells-of, amounts-in, presence-in, labels-in, start-cells, start-state, answered}
+use Rattle.monitor.specs.Marked.{w-file}
 use Rattle.monitor.specs.RunClauses.{RunClauses}
 use Rattle.monitor.specs.RuleClauses.{RuleClauses}
+use Rattle.monitor.specs.CallClauses.{CallClauses}
 use Rattle.monitor.proofs.Tables.{called-quick}
 
 pub run-clauses : RunClauses
@@ -141,4 +147,35 @@ rule-clauses = record {
   evaluates-not = refl;
   executes = (refl, refl);
   executes-not = refl;
+}
+
+pub call-clauses : CallClauses
+unfolding called-quick w-file cells-of amounts-in presence-in labels-in start-cells start-state start-amounts start-presence own-labels single answered
+call-clauses = record {
+  numbers = refl;
+  cells-lent = refl;
+  absent-lent = refl;
+  amounts-stored = (refl, refl);
+  presence-stored = refl;
+  labels-stored = refl;
+  records-said = refl;
+  records-changed = refl;
+  records-in-order = refl;
+  script-kept = refl;
+  rows-of = refl;
+  start-of-cells = refl;
+  start-of-vars = refl;
+  start-of-rights = (refl, refl);
+  start-of-counts = (refl, refl);
+  lengths-fit = refl;
+  lengths-refused = refl;
+  budget-refused = refl;
+  lent-first = (refl, refl);
+  trace-after = refl;
+  cells-after = (refl, refl, refl);
+  finishes = refl;
+  stops = refl;
+  traces-left = refl;
+  refused-untouched = refl;
+  counted = refl;
 }

@@ -1,8 +1,18 @@
 -- The worked examples hold, by computation. Assumes nothing.
 use mathlib.Core.Path.{refl}
-use Rattle.monitor.specs.Examples.{examples, Examples}
+use mathlib.Core.Bool.{true, false}
+use Rattle.monitor.specs.Examples.{examples, Examples, unlabelled, Unlabelled}
+use Rattle.monitor.specs.Leaks.{leaks, Leaks}
 use Rattle.monitor.proofs.Tables.{ran-quick, by-running}
 
 pub worked-examples : Examples
 unfolding ran-quick examples
-worked-examples = by-running examples (λ z n. refl)
+worked-examples = by-running true examples (λ z n. refl)
+
+pub unlabelled-examples : Unlabelled
+unfolding ran-quick unlabelled
+unlabelled-examples = by-running false unlabelled (λ z n. refl)
+
+pub no-leaks : Leaks
+unfolding ran-quick leaks
+no-leaks = by-running true leaks (λ z n. refl)

@@ -2,7 +2,7 @@
 -- the start are taken place by place, which is quicker than from 4,096 label words. Assumes nothing.
 use mathlib.Core.Path.{_≡_, refl, ap, _∙_, fun-ext}
 use mathlib.Core.List.{List, map-congr-left}
-use mathlib.Core.Bool.{true}
+use mathlib.Core.Bool.{Bool, true}
 use Prim.Native.Nat.{ℕ, _/_}
 use lib.IntN.{ℤ, pos}
 use lib.ListN.{length}
@@ -28,19 +28,19 @@ use Rattle.monitor.proofs.Start.{start-cell, start-is}
 
 -- ---- a book's run, its start cells place by place
 
-run-from : (Book → ℕ → Lab Cell) → Book → ℕ → ℕ → Out (Unit {0})
-run-from cells b budget room =
-    run (script b) true budget (record { cells = cells b; vars = sixteen (lit (pos 0)); rights = start-rights b; left = budget; room = room })
+run-from : Bool → (Book → ℕ → Lab Cell) → Book → ℕ → ℕ → Out (Unit {0})
+run-from labels cells b budget room =
+    run (script b) labels budget (record { cells = cells b; vars = sixteen (lit (pos 0)); rights = start-rights b; left = budget; room = room })
 
 abbrev Running : Type 0
 Running = Book → ℕ → ℕ → Out (Unit {0})
 
-run-quick : Running
-run-quick = run-from start-cell
+run-quick : Bool → Running
+run-quick labels = run-from labels start-cell
 
-same-runs : run-book true ≡ run-quick
+same-runs : (labels : Bool) → run-book labels ≡ run-quick labels
 unfolding run-book start-state run-from run-quick
-same-runs = ap run-from (fun-ext start-is)
+same-runs labels = ap (run-from labels) (fun-ext start-is)
 
 -- ---- the tables with a run of either kind
 
@@ -56,22 +56,22 @@ called-by running z n row =
 ran-by : Running → ℤ → ℕ → Row Book → Shown
 ran-by running z n row = shown (answered-by running (row .of) (row .budget) (lent z n (row .trace)) (book-verdict (row .of)))
 
-called-same : (z : ℤ) (n : ℕ) (row : Row (List ℕ)) → called z n row ≡ called-by run-quick z n row
+called-same : (z : ℤ) (n : ℕ) (row : Row (List ℕ)) → called z n row ≡ called-by (run-quick true) z n row
 unfolding called call answered called-by answered-by
 called-same z n row =
     let m = lent z n (row .trace) in
-    ap shown (same m (call-verdict (row .of) (row .budget) m)) ∙ ap (λ (running : Running). called-by running z n row) same-runs
+    ap shown (same m (call-verdict (row .of) (row .budget) m)) ∙ ap (λ (running : Running). called-by running z n row) (same-runs true)
   where
     same : (m : Memory) (v : Verdict) → answered true (row .of) (row .budget) m v ≡ answered-by (run-book true) (decode (row .of)) (row .budget) m v
     same m (Refused number index) = refl
     same m Accepted = refl
 
-ran-same : (z : ℤ) (n : ℕ) (row : Row Book) → ran z n row ≡ ran-by run-quick z n row
+ran-same : (labels : Bool) (z : ℤ) (n : ℕ) (row : Row Book) → ran labels z n row ≡ ran-by (run-quick labels) z n row
 unfolding ran book-answered ran-by answered-by
-ran-same z n row =
-    ap shown (same (lent z n (row .trace)) (book-verdict (row .of))) ∙ ap (λ (running : Running). ran-by running z n row) same-runs
+ran-same labels z n row =
+    ap shown (same (lent z n (row .trace)) (book-verdict (row .of))) ∙ ap (λ (running : Running). ran-by running z n row) (same-runs labels)
   where
-    same : (m : Memory) (v : Verdict) → book-answered (row .of) (row .budget) m v ≡ answered-by (run-book true) (row .of) (row .budget) m v
+    same : (m : Memory) (v : Verdict) → book-answered labels (row .of) (row .budget) m v ≡ answered-by (run-book labels) (row .of) (row .budget) m v
     same m (Refused number index) = refl
     same m Accepted = refl
 
@@ -79,16 +79,16 @@ ran-same z n row =
 
 unfoldable pub called-quick : ℤ → ℕ → Row (List ℕ) → Shown
 unfolding has word-of set-of word-by-word union difference within in-region region-set records section-bytes cells-format regions-format rights-format nodes-format programs-format triggers-format in-order bounds decode cost-of sort-of fields-of and-then refusals.need refusals.marked first blame length-fits mark-fits sections-fit cell-fits rises bad-cell region-fits bad-region right-fits bad-right field-fits node-fits is-command program-fits bad-program forbidden reaches trigger-fits bad-trigger book-verdict verdict extents distance-to-end pairs other-sections trailer-bytes encode tabulate amount-at rights-hold right-set lit lift lift2 via under after next each when guard need update pay set-var set-cell tell sixteen restore own exp-of cmd-of fits-32 equals less-than key from-to box-of in-box gather seen amounts-of count-of sum-of best best-of aggregate ranged expr within-label is-zero choose key-place in-table posting trigger-vars numbers region-places granted revoked fitting trigger-run fire write-cell command eval exec program run values record-bytes trace-bytes script rows start-rights call-verdict memory-after result-of cut trace-records lent start-cell shown run-from run-quick answered-by called-by
-called-quick = called-by run-quick
+called-quick = called-by (run-quick true)
 
-unfoldable pub ran-quick : ℤ → ℕ → Row Book → Shown
+unfoldable pub ran-quick : Bool → ℤ → ℕ → Row Book → Shown
 unfolding called-quick ran-by
-ran-quick = ran-by run-quick
+ran-quick labels = ran-by (run-quick labels)
 
 pub by-calling : (rows : List (Row (List ℕ))) → Shows called-quick rows → Shows called rows
 unfolding called-quick
 by-calling rows h z n = map-congr-left {l = rows} (λ row _. called-same z n row) ∙ h z n
 
-pub by-running : (rows : List (Row Book)) → Shows ran-quick rows → Shows ran rows
+pub by-running : (labels : Bool) (rows : List (Row Book)) → Shows (ran-quick labels) rows → Shows (ran labels) rows
 unfolding ran-quick
-by-running rows h z n = map-congr-left {l = rows} (λ row _. ran-same z n row) ∙ h z n
+by-running labels rows h z n = map-congr-left {l = rows} (λ row _. ran-same labels z n row) ∙ h z n

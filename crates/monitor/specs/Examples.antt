@@ -1,11 +1,12 @@
 -- Worked examples: what the rules give in single cases, among them cases in which comparing two books shows nothing.
 -- The answers are worked out by hand from the paper. A query with its four bounds costs 8, every other node 1.
 use mathlib.Core.List.{List, [], _∷_, _++_}
+use mathlib.Core.Bool.{true, false}
 use Prim.Native.Nat.{ℕ}
 use lib.IntN.{pos}
 use Rattle.book.specs.Records.{RightRecord, NodeRecord, TriggerRecord, Book}
 use Rattle.monitor.specs.Tables.{cell, table-region, public, may-read, may-write, constant, variable, plus, minus, equals, less, count, sum, smallest, largest, skip, assign, both, if, while, put, clear, out, grant-read, grant-write, revoke-read, revoke-write, raise, program, trigger, Row, ran, Shows, run-list, shows, told, changed}
-use Rattle.monitor.specs.Marked.{w-rights, w-nodes, w-with}
+use Rattle.monitor.specs.Marked.{w-rights, w-nodes, w-with, beyond, branching}
 
 -- ---- without triggers: W with other nodes from 4 on; nodes 0 to 3 are the constants 0, 1, 2, 7
 
@@ -36,6 +37,20 @@ lending = sum 0 2 2 0 3 ∷ grant-read 1 1 ∷ out 4 1 ∷ revoke-read 1 1 ∷ b
 -- region 0 is revoked for user 1, and then owner 1's sum goes to him
 abbrev pub revoking : List NodeRecord
 revoking = sum 0 1 1 0 3 ∷ out 4 1 ∷ revoke-read 0 1 ∷ both 6 5 ∷ []
+
+-- user 1, who may read region 0, is granted region 1 and shown the sum of both owners
+abbrev pub lending-more : List NodeRecord
+lending-more = sum 0 1 2 0 3 ∷ grant-read 1 1 ∷ out 4 1 ∷ both 5 6 ∷ []
+
+-- region 1 is revoked for user 1, who is shown owner 1's sum and then that of both owners
+abbrev pub revoking-one : List NodeRecord
+revoking-one = sum 0 1 1 0 3 ∷ revoke-read 1 1 ∷ out 4 1 ∷ sum 0 1 2 0 3 ∷ out 7 1 ∷ both 5 6 ∷ both 9 8 ∷ []
+
+-- user 0 is granted region 1 to write, puts for owners 1 and 2, loses region 1 again, and puts for both once more
+abbrev pub writing-more : List NodeRecord
+writing-more =
+    grant-write 1 0 ∷ put 0 1 0 1 ∷ put 0 2 0 1 ∷ revoke-write 1 0
+    ∷ both 4 5 ∷ both 8 6 ∷ both 9 7 ∷ both 10 5 ∷ both 11 6 ∷ []
 
 -- user 0 may write region 0, puts, may no longer, and puts again
 abbrev pub writing : List NodeRecord
@@ -99,11 +114,19 @@ in-turn = put 1 3 4 1 ∷ put 1 3 4 2 ∷ put 0 1 0 2 ∷ sum 1 1 1 0 0 ∷ out 
 abbrev pub back-and-forth : List NodeRecord
 back-and-forth = put 0 1 0 2 ∷ put 0 3 2 5 ∷ sum 0 1 1 0 2 ∷ out 9 1 ∷ both 7 10 ∷ []
 
+-- body 7 puts 1 at the written key itself, which fires body 6 with 1; then the copy is shown, and the cell
+abbrev pub overwritten : List NodeRecord
+overwritten = put 0 3 4 1 ∷ put 0 1 0 2 ∷ sum 1 1 1 0 0 ∷ out 9 1 ∷ sum 0 1 1 0 0 ∷ out 11 1 ∷ both 8 10 ∷ both 13 12 ∷ []
+
 -- owner 2's line 1 is absent and cleared; body 8 puts the amount, which is 0, plus 1 at the written key of table 1
 abbrev pub cleared : List NodeRecord
 cleared = plus 5 1 ∷ put 1 3 4 7 ∷ clear 0 2 1 ∷ sum 1 2 2 1 1 ∷ out 10 1 ∷ both 9 11 ∷ []
 
--- ---- the table
+-- ---- the tables
+
+-- user 1 is told 1150
+abbrev pub told-1150 : List ℕ
+told-1150 = 1 ∷ 1 ∷ 0 ∷ 0 ∷ 126 ∷ 4 ∷ 0 ∷ 0 ∷ []
 
 unfoldable pub examples : List (Row Book)
 examples =
@@ -116,6 +139,10 @@ examples =
     ∷ run-list (w-with w-rights comparing (program 0 11 ∷ [])) (shows 0 0 16 24 ((1 ∷ 1 ∷ 0 ∷ 0 ∷ 255 ∷ 255 ∷ 255 ∷ 255 ∷ []) ∷ told 1 ∷ told 0 ∷ []))
     -- eight bytes of trace are room for one record, and not readable comes before no room
     ∷ record { of = w-with w-rights w-nodes (program 0 8 ∷ []); budget = 100000; trace = 8; shows = shows 27 7 19 8 (told 250 ∷ []) }
+    -- fifteen bytes are room for one record too
+    ∷ record { of = w-with (may-read 1 0 ∷ may-read 1 1 ∷ []) w-nodes (program 0 8 ∷ []); budget = 100000; trace = 15; shows = shows 30 7 19 8 (told 250 ∷ []) }
+    -- with no budget at all the root is not entered
+    ∷ record { of = w-with w-rights w-nodes (program 0 8 ∷ []); budget = 0; trace = 4096; shows = shows 21 8 0 0 [] }
     -- an assigned variable's label does not keep the old one; seven nodes
     ∷ run-list (w-with w-rights lowered (program 0 9 ∷ [])) (shows 0 0 7 8 (told 1 ∷ []))
     -- a while costs 2 for each of its three tests, its body 4 for each of two turns; 9, 4 and a constant cost 3
@@ -128,6 +155,18 @@ examples =
     (shows 0 0 11 16 (changed 4 1 0 ∷ told 250 ∷ []))
     -- and takes what is not
     ∷ run-list (w-with (may-read 1 0 ∷ []) revoking (program 0 7 ∷ [])) (shows 27 5 11 8 (changed 4 1 0 ∷ []))
+    -- a grant adds to what was there: 7, grant, out and query
+    ∷ run-list (w-with (may-read 1 0 ∷ []) lending-more (program 0 7 ∷ [])) (shows 0 0 11 16 (changed 2 1 1 ∷ told-1150 ∷ []))
+    -- and lasts to the next program, whoever runs it
+    ∷ run-list (w-with (may-read 1 0 ∷ []) lending-more (program 0 5 ∷ program 2 6 ∷ [])) (shows 0 0 10 16 (changed 2 1 1 ∷ told-1150 ∷ []))
+    -- a revoke takes one region and leaves the other: 10, 9, revoke, and two outs with queries
+    ∷ run-list (w-with (may-read 1 0 ∷ may-read 1 1 ∷ []) revoking-one (program 0 10 ∷ [])) (shows 27 8 21 16 (changed 4 1 1 ∷ told 250 ∷ []))
+    -- and lasts to the next program
+    ∷ run-list (w-with (may-read 1 0 ∷ []) revoking (program 0 6 ∷ program 2 5 ∷ [])) (shows 27 5 10 8 (changed 4 1 0 ∷ []))
+    -- it takes what two records gave
+    ∷ run-list (w-with (may-read 1 0 ∷ may-read 1 0 ∷ []) revoking (program 0 7 ∷ [])) (shows 27 5 11 8 (changed 4 1 0 ∷ []))
+    -- the same of write rights: five sequences, grant, two puts of 4, revoke, and two puts of 4
+    ∷ run-list (w-with (may-write 0 0 ∷ []) writing-more (program 0 12 ∷ [])) (shows 24 6 23 16 (changed 3 0 1 ∷ changed 5 0 1 ∷ []))
     -- no write right: put and three constants
     ∷ run-list (w-with w-rights (put 0 1 0 1 ∷ []) (program 0 4 ∷ [])) (shows 24 4 4 0 [])
     -- a write right granted and revoked: 9, 8, 7, grant, put 4, revoke, put 4
@@ -164,6 +203,9 @@ examples =
     ∷ run-list (posting [] keyed 8 (trigger 0 1 3 9 ∷ [])) (shows 0 0 13 0 [])
     -- two triggers run by number: 12, put and three constants, twice 4, out and query
     ∷ run-list (posting [] in-turn 12 (trigger 0 1 3 7 ∷ trigger 0 1 3 8 ∷ [])) (shows 0 0 22 8 (told 2 ∷ []))
+    -- a trigger has the amount of the write that fired it, also where an earlier trigger has overwritten the cell: 14, 13, put and three
+    -- constants, body 7 and twice the copy, each 4, and two outs with queries
+    ∷ run-list (posting (may-read 1 0 ∷ []) overwritten 14 (trigger 0 1 0 7 ∷ trigger 0 1 3 6 ∷ [])) (shows 0 0 36 16 (told 2 ∷ told 1 ∷ []))
     -- trigger 0's write fires trigger 1, and trigger 1's write does not fire trigger 0: 11, three puts of 4, out and query; the budget
     -- is just enough
     ∷ record {
@@ -176,5 +218,30 @@ examples =
     ∷ run-list (posting [] cleared 12 (trigger 0 2 3 8 ∷ [])) (shows 0 0 19 8 (told 1 ∷ []))
     ∷ []
 
+-- the run with no labels omits tests 25, 26, 27 and 29 and is otherwise the same
+unfoldable pub unlabelled : List (Row Book)
+unlabelled =
+    -- 27: W tells user 1 the sum of both owners
+    run-list (w-with w-rights w-nodes (program 0 8 ∷ [])) (shows 0 0 19 16 (told 250 ∷ told-1150 ∷ []))
+    -- 25: the fresh variable of the marked cases
+    ∷ run-list (w-with w-rights branching (program 0 7 ∷ [])) (shows 0 0 11 0 [])
+    -- 29 and 26: in a context that is not public, and that the cell's label does not hold
+    ∷ run-list (w-with [] in-secret (program 0 7 ∷ [])) (shows 0 0 10 8 (changed 2 1 1 ∷ []))
+    ∷ run-list (w-with (may-write 0 0 ∷ []) in-secret (program 0 9 ∷ [])) (shows 0 0 13 0 [])
+    -- 21 to 24, 28 and 30 are tested all the same
+    ∷ record { of = w-with w-rights w-nodes (program 0 8 ∷ []); budget = 18; trace = 4096; shows = shows 21 3 18 8 (told 250 ∷ []) }
+    ∷ run-list (w-with w-rights beyond (program 0 6 ∷ [])) (shows 22 5 4 0 [])
+    ∷ run-list (w-with w-rights (constant (pos 8) ∷ put 0 4 0 1 ∷ []) (program 0 5 ∷ [])) (shows 23 5 4 0 [])
+    ∷ run-list (w-with w-rights (put 0 1 0 1 ∷ []) (program 0 4 ∷ [])) (shows 24 4 4 0 [])
+    ∷ run-list (w-with w-rights (grant-read 1 1 ∷ []) (program 1 4 ∷ [])) (shows 28 4 1 0 [])
+    ∷ record { of = w-with w-rights w-nodes (program 0 8 ∷ []); budget = 100000; trace = 15; shows = shows 30 7 19 8 (told 250 ∷ []) }
+    -- triggers run, and each program's variables start at 0
+    ∷ run-list (posting [] posted 10 (trigger 0 1 3 6 ∷ [])) (shows 0 0 18 8 (told 2 ∷ []))
+    ∷ run-list (w-with w-rights one-each (program 0 4 ∷ program 0 6 ∷ [])) (shows 0 0 4 8 (told 0 ∷ []))
+    ∷ []
+
+abbrev pub Unlabelled : Type 0
+Unlabelled = Shows (ran false) unlabelled
+
 abbrev pub Examples : Type 0
-Examples = Shows ran examples
+Examples = Shows (ran true) examples

@@ -6,6 +6,8 @@ pub mod Call
 pub mod Tables
 pub mod Marked
 pub mod Examples
+pub mod Leaks
 pub mod Samples
 pub mod RunClauses
 pub mod RuleClauses
+pub mod CallClauses

@@ -1,7 +1,7 @@
 -- Tables: books written record by record, and rows that say what a call on a file, or the run of a book, gives.
 use mathlib.Core.Path.{_≡_}
 use mathlib.Core.List.{List, [], _∷_, map}
-use mathlib.Core.Bool.{true}
+use mathlib.Core.Bool.{Bool, true}
 use Prim.Native.Nat.{ℕ, _/_}
 use lib.IntN.{ℤ, pos}
 use lib.ListN.{length, replicate}
@@ -153,14 +153,14 @@ shown r = record { answer = values (r .answer); records = trace-records r }
 unfoldable pub called : ℤ → ℕ → Row (List ℕ) → Shown
 called z n row = shown (call true (row .of) (row .budget) (lent z n (row .trace)))
 
--- a book's run, if its records are accepted
-unfoldable pub book-answered : Book → ℕ → Memory → Verdict → Result
-book-answered b budget m (verdicts.Refused number index) = record { answer = Refused number index; memory = m }
-book-answered b budget m verdicts.Accepted = result-of budget m (run-book true b budget (length (m .trace) / 8))
+-- a book's run, with labels or without, if its records are accepted
+unfoldable pub book-answered : Bool → Book → ℕ → Memory → Verdict → Result
+book-answered labels b budget m (verdicts.Refused number index) = record { answer = Refused number index; memory = m }
+book-answered labels b budget m verdicts.Accepted = result-of budget m (run-book labels b budget (length (m .trace) / 8))
 
 -- what that shows
-unfoldable pub ran : ℤ → ℕ → Row Book → Shown
-ran z n row = shown (book-answered (row .of) (row .budget) (lent z n (row .trace)) (book-verdict (row .of)))
+unfoldable pub ran : Bool → ℤ → ℕ → Row Book → Shown
+ran labels z n row = shown (book-answered labels (row .of) (row .budget) (lent z n (row .trace)) (book-verdict (row .of)))
 
 -- each row shows what it says, whatever lent memory was filled with
 abbrev pub Shows : {A : Type 0} → (ℤ → ℕ → Row A → Shown) → List (Row A) → Type 0

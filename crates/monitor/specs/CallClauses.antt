@@ -1,0 +1,99 @@
+-- What each part of a call gives, at its limits: the clauses of Call.antt one by one.
+use mathlib.Core.Path.{_≡_}
+use mathlib.Core.List.{List, [], _∷_, _++_, map}
+use mathlib.Core.Bool.{Bool, true, false}
+use Prim.Native.Nat.{ℕ, _+_, _^_}
+use lib.IntN.{ℤ, pos, negsuc}
+use lib.ListN.{length, getD, take, drop, replicate}
+use Rattle.book.specs.Records.{Book}
+use Rattle.book.specs.declared.Verdict.{Verdict}
+use Rattle.book.specs.declared.Verdict.the-variants as verdicts
+use Rattle.monitor.specs.Labelled.{Label, Lab, lit}
+use Rattle.monitor.specs.Run.{Cell, held, absent, State, said, changed, Out, done, stop}
+use Rattle.monitor.specs.Call
+use Rattle.monitor.specs.Marked.{w-file}
+use Rattle.monitor.specs.Samples.{labelled, eight, sample-cells, sample, small}
+use Rattle.monitor.specs.declared.Answer.{Answer}
+use Rattle.monitor.specs.declared.Answer.the-variants.{Refused, Stopped, Finished}
+use Rattle.monitor.specs.declared.Values.{Values}
+
+-- ---- lent memory for the clauses
+
+-- so many amounts, presence words, label words and trace bytes
+abbrev pub lent : ℕ → ℕ → ℕ → ℕ → Call.Memory
+lent amounts presence labels trace =
+    record { amounts = replicate amounts (pos 1); presence = replicate presence 2; labels = replicate labels 3; trace = replicate trace 4 }
+
+-- memory of three trace bytes more than two records have
+abbrev pub nineteen : Call.Memory
+nineteen = lent 512 8 4096 19
+
+abbrev pub verdict-of : ℕ → Call.Memory → Verdict
+verdict-of budget m = Call.call-verdict w-file budget m
+
+abbrev pub refused-1 : Verdict
+refused-1 = verdicts.Refused 1 0
+
+-- a run that told two records and left 93
+abbrev pub finished-run : Out (Unit {0})
+finished-run = done (said 1 (pos 5) ∷ changed 2 3 1 ∷ []) tt (record { cells = sample .cells; vars = sample .vars; rights = sample .rights; left = 93; room = 0 })
+
+abbrev pub stopped-run : Out (Unit {0})
+stopped-run = stop (said 1 (pos 5) ∷ []) (record { number = 27; node = 9; obstacle = [] }) (record { cells = sample .cells; vars = sample .vars; rights = sample .rights; left = 93; room = 0 })
+
+-- the bytes of the two records
+abbrev pub two-records : List ℕ
+two-records = 1 ∷ 1 ∷ 0 ∷ 0 ∷ 5 ∷ 0 ∷ 0 ∷ 0 ∷ 2 ∷ 3 ∷ 1 ∷ 0 ∷ 0 ∷ 0 ∷ 0 ∷ 0 ∷ []
+
+pub record CallClauses : Type 0 where
+  -- the paper's numbers: of a refusal, a stop and a finished run
+  pub numbers : map Call.values (Refused 8 3 ∷ Stopped 27 7 19 24 ∷ Finished 39 16 ∷ [])
+      ≡ record { number = 8; at = 3; cost = 0; bytes = 0 } ∷ record { number = 27; at = 7; cost = 19; bytes = 24 } ∷ record { number = 0; at = 0; cost = 39; bytes = 16 } ∷ []
+  -- cells from lent memory: amount 1, bit 1 of presence word 0, and label words 8 to 15
+  pub cells-lent : Call.cells-of (pos 5 ∷ negsuc 6 ∷ pos 7 ∷ []) (2 ∷ []) (10 ∷ 11 ∷ 12 ∷ 13 ∷ 14 ∷ 15 ∷ 16 ∷ 17 ∷ 20 ∷ 21 ∷ 22 ∷ 23 ∷ 24 ∷ 25 ∷ 26 ∷ 27 ∷ 30 ∷ []) 1
+      ≡ record { val = record { present = true; amount = negsuc 6 }; lab = 20 ∷ 21 ∷ 22 ∷ 23 ∷ 24 ∷ 25 ∷ 26 ∷ 27 ∷ [] }
+  pub absent-lent : Call.cells-of (pos 5 ∷ negsuc 6 ∷ pos 7 ∷ []) (2 ∷ []) (replicate 24 1) 2 .val ≡ record { present = false; amount = pos 7 }
+  -- and lent memory from the cells: 512 amounts, of which cell 6 is absent; all bits of eight words but its own; labels one after another
+  pub amounts-stored : (take 8 (Call.amounts-in sample-cells) ≡ pos 0 ∷ pos 1 ∷ pos 2 ∷ pos 3 ∷ pos 4 ∷ pos 5 ∷ pos 0 ∷ pos 7 ∷ [])
+      × (drop 510 (Call.amounts-in sample-cells) ≡ pos 510 ∷ pos 511 ∷ [])
+  pub presence-stored : Call.presence-in sample-cells ≡ 18446744073709551551 ∷ replicate 7 18446744073709551615
+  pub labels-stored : Call.labels-in sample-cells 3 ≡ 1 ∷ 2 ∷ 4 ∷ []
+  -- records: kind, user, region, 0, and the amount's four bytes, lowest first
+  pub records-said : map Call.record-bytes (said 3 (negsuc 1) ∷ said 7 (pos 67305985) ∷ [])
+      ≡ (1 ∷ 3 ∷ 0 ∷ 0 ∷ 254 ∷ 255 ∷ 255 ∷ 255 ∷ []) ∷ (1 ∷ 7 ∷ 0 ∷ 0 ∷ 1 ∷ 2 ∷ 3 ∷ 4 ∷ []) ∷ []
+  pub records-changed : Call.record-bytes (changed 5 6 7) ≡ 5 ∷ 6 ∷ 7 ∷ 0 ∷ 0 ∷ 0 ∷ 0 ∷ 0 ∷ []
+  pub records-in-order : Call.trace-bytes (said 1 (pos 5) ∷ changed 2 3 1 ∷ []) ≡ two-records
+  -- the script is the book without its cells
+  pub script-kept : Call.script small ≡ record { cells = []; regions = small .regions; rights = small .rights; nodes = small .nodes; programs = small .programs; triggers = small .triggers }
+  -- user 1's set, and none for user 3 of three
+  pub rows-of : map (Call.rows ((5 ∷ []) ∷ (6 ∷ []) ∷ (7 ∷ []) ∷ [])) (1 ∷ 3 ∷ []) ≡ (6 ∷ []) ∷ [] ∷ []
+  -- the start: cell (0,0,3) holds 33 and cell (1,2,3) 44, with their own places; user 5 reads region 1 and user 6 writes region 0
+  pub start-of-cells : map (Call.start-state small 77 9 .cells) (3 ∷ 83 ∷ 84 ∷ [])
+      ≡ record { val = held (pos 33); lab = eight 8 } ∷ record { val = held (pos 44); lab = 0 ∷ 524288 ∷ replicate 6 0 } ∷ record { val = absent; lab = 0 ∷ 1048576 ∷ replicate 6 0 } ∷ []
+  pub start-of-vars : map (Call.start-state small 77 9 .vars) (0 ∷ 15 ∷ []) ≡ lit (pos 0) ∷ lit (pos 0) ∷ []
+  pub start-of-rights : (map (Call.start-state small 77 9 .rights .read) (5 ∷ 6 ∷ []) ≡ eight 65280 ∷ eight 0 ∷ [])
+      × (map (Call.start-state small 77 9 .rights .write) (5 ∷ 6 ∷ []) ≡ eight 0 ∷ eight 48 ∷ [])
+  pub start-of-counts : (Call.start-state small 77 9 .left ≡ 77) × (Call.start-state small 77 9 .room ≡ 9)
+  -- 1: each lent length, one less and one more; trace and budget at their most and one more
+  pub lengths-fit : verdict-of 1000000 (lent 512 8 4096 0) ∷ verdict-of 0 (lent 512 8 4096 65536) ∷ [] ≡ verdicts.Accepted ∷ verdicts.Accepted ∷ []
+  pub lengths-refused : map (verdict-of 100) (lent 511 8 4096 0 ∷ lent 513 8 4096 0 ∷ lent 512 7 4096 0 ∷ lent 512 9 4096 0 ∷ lent 512 8 4095 0 ∷ lent 512 8 4097 0 ∷ lent 512 8 4096 65537 ∷ [])
+      ≡ replicate 7 refused-1
+  pub budget-refused : verdict-of 1000001 (lent 512 8 4096 0) ≡ refused-1
+  -- 1 comes before those of the file
+  pub lent-first : (Call.call-verdict [] 100 (lent 512 8 4096 0) ≡ verdicts.Refused 2 0) × (Call.call-verdict [] 1000001 (lent 512 8 4096 0) ≡ refused-1)
+  -- memory after a run: the cells' amounts, presence and labels, and the records before the trace's other bytes
+  pub trace-after : Call.memory-after nineteen (said 1 (pos 5) ∷ changed 2 3 1 ∷ []) sample .trace ≡ two-records ++ (4 ∷ 4 ∷ 4 ∷ [])
+  pub cells-after : (drop 509 (Call.memory-after nineteen [] sample .amounts) ≡ pos 509 ∷ pos 510 ∷ pos 511 ∷ [])
+      × (getD (Call.memory-after nineteen [] sample .presence) 0 0 ≡ 18446744073709551551) × (drop 510 (Call.memory-after nineteen [] sample .labels) ≡ 2 ^ 510 ∷ 2 ^ 511 ∷ [])
+  -- the answer: what was spent of the budget, and the bytes of the records
+  pub finishes : Call.result-of 100 nineteen finished-run .answer ≡ Finished 7 16
+  pub stops : Call.result-of 100 nineteen stopped-run .answer ≡ Stopped 27 9 7 8
+  pub traces-left : map (λ o. take 9 (Call.result-of 100 nineteen o .memory .trace)) (finished-run ∷ stopped-run ∷ [])
+      ≡ (1 ∷ 1 ∷ 0 ∷ 0 ∷ 5 ∷ 0 ∷ 0 ∷ 0 ∷ 2 ∷ []) ∷ (1 ∷ 1 ∷ 0 ∷ 0 ∷ 5 ∷ 0 ∷ 0 ∷ 0 ∷ 4 ∷ []) ∷ []
+  -- refused: lent memory as it was
+  pub refused-untouched : Call.answered true w-file 100 nineteen (verdicts.Refused 8 3) ≡ record { answer = Refused 8 3; memory = nineteen }
+  -- the records that the answer counts, and no more
+  pub counted : map Call.trace-records
+      (record { answer = Finished 7 16; memory = record { amounts = []; presence = []; labels = []; trace = two-records } }
+      ∷ record { answer = Stopped 27 9 7 8; memory = record { amounts = []; presence = []; labels = []; trace = two-records } } ∷ [])
+      ≡ ((1 ∷ 1 ∷ 0 ∷ 0 ∷ 5 ∷ 0 ∷ 0 ∷ 0 ∷ []) ∷ (2 ∷ 3 ∷ 1 ∷ 0 ∷ 0 ∷ 0 ∷ 0 ∷ 0 ∷ []) ∷ []) ∷ ((1 ∷ 1 ∷ 0 ∷ 0 ∷ 5 ∷ 0 ∷ 0 ∷ 0 ∷ []) ∷ []) ∷ []
