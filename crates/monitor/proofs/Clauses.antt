@@ -87,6 +87,7 @@ rule-clauses = record {
   queries = refl;
   sums-in-range = refl;
   differences-in-range = refl;
+  queries-in-range = refl;
   inside-gains = refl;
   chosen = refl;
   places = refl;

@@ -1,7 +1,7 @@
 -- What each rule gives, at its limits: the clauses of Rules.antt one by one, with stand-ins for a node's children.
 use mathlib.Core.Path.{_≡_}
 use mathlib.Core.List.{List, [], _∷_, map}
-use mathlib.Core.Bool.{Bool, true, false}
+use mathlib.Core.Bool.{Bool, true, false, cond}
 use Prim.Native.Nat.{ℕ, _+_, _%_, _^_}
 use lib.Dec.{eqb}
 use lib.IntN.{ℤ, pos, negsuc}
@@ -35,6 +35,14 @@ last-cell = record { owners = record { first = pos 7; last = pos 7 }; lines = re
 
 abbrev pub first-cell : Rules.Box
 first-cell = record { owners = record { first = pos 0; last = pos 0 }; lines = record { first = pos 0; last = pos 0 } }
+
+-- node 5 gives z, and every other node 1
+abbrev pub largest-or-one : ℤ → ℕ → M (Lab ℤ)
+largest-or-one z n = λ s. done [] (labelled (cond (eqb n 5) z (pos 1)) 1) s
+
+-- each cell holds the largest amount
+abbrev pub full : State
+full = record { cells = λ q. labelled (held (pos 2147483647)) 1; vars = sample .vars; rights = sample .rights; left = 100; room = 5 }
 
 -- smallest and largest stand in the middle
 abbrev pub some-cells : List Cell
@@ -96,8 +104,11 @@ pub record RuleClauses : Type 0 where
   pub queries : ending (Rules.expr giving 9 (syntax.query 9 1 1 2 3 5) sample)
       ≡ went (said 1 (pos 100) ∷ said 2 (pos 99) ∷ said 3 (pos 98) ∷ said 5 (pos 97) ∷ [])
       (record { val = pos 480; lab = eight (46 + 2 ^ 75 + 2 ^ 76 + 2 ^ 77 + 2 ^ 83 + 2 ^ 84 + 2 ^ 85) })
-  pub sums-in-range : ending (Rules.expr (λ n. λ s. done [] (labelled (pos 2147483647) 1) s) 9 (syntax.add 5 3) sample) ≡ halted [] 22 9 (eight 0)
-  pub differences-in-range : ending (Rules.expr (λ n. λ s. done [] (labelled (negsuc 2147483647) n) s) 9 (syntax.add 5 3) sample) ≡ halted [] 22 9 (eight 0)
+  -- 22 for each: 2147483647 + 1, -2147483648 - 1, and a sum of six cells
+  pub sums-in-range : ending (Rules.expr (largest-or-one (pos 2147483647)) 9 (syntax.add 5 3) sample) ≡ halted [] 22 9 (eight 0)
+  pub differences-in-range : ending (Rules.expr (largest-or-one (negsuc 2147483647)) 9 (syntax.minus 5 3) sample) ≡ halted [] 22 9 (eight 0)
+  pub queries-in-range : ending (Rules.expr giving 9 (syntax.query 9 1 1 2 3 5) full)
+      ≡ halted (said 1 (pos 100) ∷ said 2 (pos 99) ∷ said 3 (pos 98) ∷ said 5 (pos 97) ∷ []) 22 9 (eight 0)
   -- ---- contexts, keys and places
   pub inside-gains : Rules.within-label here (labelled (pos 5) 32) ≡ record { ctx = 48 ∷ []; user = 3; above = 1 }
   pub chosen : map (λ z. ending (Rules.choose z (running here 1) (running here 2) sample)) (pos 0 ∷ pos 1 ∷ negsuc 0 ∷ [])

@@ -257,7 +257,8 @@ module _ (book : Book) where
     command e i (while a b) = do
       x ← ev a
       choose (x .val) (do rec (within-label e x) b; rec (within-label e x) i) (ret tt)
-    -- 21 put amount c at table p, owner a, line b
+    -- 21 put amount c at table p, owner a, line b. Its four parts stand in `write-cell`: the tests of key and right, 23 and 24, and the new
+    -- label in `posting`; the test of the old label, 26, with the write itself in `set-cell` (Run.antt); the triggers in `fire`
     command e i (put p a b c) = do
       x ← ev a
       y ← ev b
