@@ -6,6 +6,7 @@ pub mod builder;
 mod case_lines;
 mod decode;
 pub mod deepest;
+pub mod edges;
 pub mod format_cases;
 pub mod generate;
 mod interpreter;

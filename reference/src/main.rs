@@ -2,6 +2,7 @@
 
 use reference::book::{Book, Refusal};
 use reference::deepest::{self, Link};
+use reference::edges;
 use reference::format_cases;
 use reference::notation;
 use reference::run::on_deep_stack;
@@ -15,13 +16,14 @@ use std::path::Path;
 use std::process::ExitCode;
 
 const USAGE: &str = "usage: reference run|assemble|list [FILE]
-       reference cases|deepest FOLDER
+       reference cases|deepest|edges FOLDER
   run       run the book in FILE, or in standard input, and list what it does
   assemble  write the book that a text describes
   list      write the text that describes a book
   cases     write cases for readers, writers and runners of books to FOLDER/stdin,
             and the lines that these cases have to give to FOLDER/stdout
-  deepest   write the books that nest deepest to FOLDER";
+  deepest   write the books that nest deepest to FOLDER
+  edges     write books at the edges of what `run` allows to FOLDER";
 
 /// Exit code for a text with a fault and for a book that is refused. Only `run`
 /// lists a refused book, or one that stops, with exit code 0.
@@ -78,6 +80,7 @@ fn dispatch(arguments: &[OsString]) -> Result<(), Failure> {
         Some("list") => list(file),
         Some("cases") => write_cases(file),
         Some("deepest") => write_deepest(file),
+        Some("edges") => write_edges(file),
         _ => {
             let command = command.to_string_lossy();
             Err(format!("reference: unknown command {command}\n{USAGE}").into())
@@ -104,11 +107,14 @@ fn list(file: Option<&Path>) -> Result<(), Failure> {
     print(notation::list(&book).as_bytes())
 }
 
+/// The folder to write to, which has to be named.
+fn named(folder: Option<&Path>) -> Result<&Path, Failure> {
+    folder.ok_or_else(|| USAGE.to_string().into())
+}
+
 /// The format cases and then the run cases.
 fn write_cases(folder: Option<&Path>) -> Result<(), Failure> {
-    let Some(folder) = folder else {
-        return Err(USAGE.to_string().into());
-    };
+    let folder = named(folder)?;
     let format = format_cases::all();
     let run = run_cases::all();
     let stream = [format_cases::stream(&format), run_cases::stream(&run)].concat();
@@ -118,14 +124,20 @@ fn write_cases(folder: Option<&Path>) -> Result<(), Failure> {
 }
 
 fn write_deepest(folder: Option<&Path>) -> Result<(), Failure> {
-    let Some(folder) = folder else {
-        return Err(USAGE.to_string().into());
-    };
+    let folder = named(folder)?;
     for (name, link) in [
         ("deepest_if.book", Link::If),
         ("deepest_then.book", Link::Then),
     ] {
         output(&folder.join(name), &deepest::book(link).encode())?;
+    }
+    Ok(())
+}
+
+fn write_edges(folder: Option<&Path>) -> Result<(), Failure> {
+    let folder = named(folder)?;
+    for (name, bytes) in edges::files() {
+        output(&folder.join(name), &bytes)?;
     }
     Ok(())
 }
