@@ -174,13 +174,13 @@ static bool load_book(const uint8_t *book, size_t length)
     return true;
 }
 
-/* Writes the book with other cells to `out`. Gives the length of the new book. */
-static size_t write_book(const uint8_t *book, size_t length, const struct cells *other)
+/* Writes the book to `out`, with these cells for its own. Gives the length of the new book. */
+static size_t write_book(const uint8_t *book, size_t length, const struct cells *held)
 {
     memset(out, UNTOUCHED, sizeof out);
     const struct kagyurma_answered answer = kagyurma_write(book, length,
-                                                           other->amounts, COUNT(other->amounts),
-                                                           other->presence, COUNT(other->presence),
+                                                           held->amounts, COUNT(held->amounts),
+                                                           held->presence, COUNT(held->presence),
                                                            out, sizeof out);
     print_answer("write", answer);
     print_rest("output", out, sizeof out, answer.length);
@@ -211,27 +211,28 @@ static void write_changed(const uint8_t *book, size_t length)
     }
 }
 
-/* Gives how many bytes of the file were read, or 0 where it cannot be read; a book has at least 36. */
-static size_t read_file(const char *path)
+/* Gives whether the file can be read; if so, its first bytes are in `file`. */
+static bool read_file(const char *path, size_t *length)
 {
     FILE *const stream = fopen(path, "rb");
     if (stream == NULL) {
-        perror(path);
-        return 0;
+        return false;
     }
-    const size_t length = fread(file, 1, sizeof file, stream);
+    *length = fread(file, 1, sizeof file, stream);
+    const bool good = !ferror(stream);
     fclose(stream);
-    return length;
+    return good;
 }
 
 int main(int argc, char **argv)
 {
+    size_t length = 0;
     if (argc != 2) {
         fprintf(stderr, "usage: example FILE\n");
         return 2;
     }
-    const size_t length = read_file(argv[1]);
-    if (length == 0) {
+    if (!read_file(argv[1], &length)) {
+        fprintf(stderr, "example: not a file that can be read: %s\n", argv[1]);
         return 2;
     }
     run_book(file, length);
