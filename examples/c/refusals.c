@@ -60,6 +60,8 @@ struct sizes {
     size_t amounts, presence, labels, trace, out;
     uint32_t budget;
 };
+
+/* What is not refused, with the longest trace and the largest budget. */
 static const struct sizes MOST = {512, 8, 4096, 65536, LONGEST, 1000000};
 
 static const struct {
@@ -107,7 +109,7 @@ static const char *left(void)
     return memcmp(&lent, &before, sizeof lent) == 0 ? "untouched" : "touched";
 }
 
-/* 256 of the 512 bits of such presence words are set, and so a book is written with 256 cells. */
+/* Of the 512 bits of such presence words 256 are set, so that a book that is written gets 256 cells. */
 static void fill(void)
 {
     memset(&lent, JUNK, sizeof lent);
@@ -135,7 +137,7 @@ static void call(const char *what, const uint8_t *file, size_t length, struct si
     printf("\n");
 }
 
-/* The length of a file at the limits of refusal 2: zeros, and at its end its own length. */
+/* Puts a file of this length to the calls: zeros, with its length at its end, so that only the length can be why 2 refuses it. */
 static void call_zeros(const char *what, size_t length)
 {
     static uint8_t file[LONGEST + 1];
