@@ -62,6 +62,8 @@ run-clauses = record {
 pub rule-clauses : RuleClauses
 unfolding called-quick
 rule-clauses = record {
+  expressions-of = refl;
+  commands-of = refl;
   limits = refl;
   same-numbers = refl;
   lesser-numbers = refl;

@@ -5,7 +5,7 @@ use mathlib.Core.Bool.{Bool, true, false, cond}
 use Prim.Native.Nat.{ℕ, _+_, _%_, _^_}
 use lib.Dec.{eqb}
 use lib.IntN.{ℤ, pos, negsuc}
-use Rattle.book.specs.Records.{TriggerRecord}
+use Rattle.book.specs.Records.{NodeRecord, TriggerRecord}
 use Rattle.monitor.specs.Labelled.{Label, Lab, lit}
 use Rattle.monitor.specs.Run.{Cell, held, absent, State, said, changed, Out, done, M}
 use Rattle.monitor.specs.Rules
@@ -67,7 +67,18 @@ reading e n = λ s. done (said n (s .vars 0 .val) ∷ said n (s .vars 1 .val) �
 abbrev pub triggered : ℕ → Out (Unit {0})
 triggered n = Rules.trigger-run small true running here 1 10 (key-of (pos 1) (pos 2)) (labelled (held (pos 9)) 8) n sample
 
+-- a node of this kind, its fields told apart
+abbrev pub node-of : ℕ → NodeRecord
+node-of kind = record { kind = kind; p = 1; a = 2; b = 3; c = 4; d = 5; k = pos 6; zeros = 7 }
+
 pub record RuleClauses : Type 0 where
+  -- ---- the kinds of node: p, a, b, c, d and k are 1 to 6
+  pub expressions-of : map (λ kind. syntax.exp-of (node-of kind)) (1 ∷ 2 ∷ 3 ∷ 4 ∷ 5 ∷ 6 ∷ 8 ∷ 9 ∷ 10 ∷ 11 ∷ [])
+      ≡ syntax.const (pos 6) ∷ syntax.var 1 ∷ syntax.add 2 3 ∷ syntax.minus 2 3 ∷ syntax.equal 2 3 ∷ syntax.less 2 3
+      ∷ syntax.query 8 1 2 3 4 5 ∷ syntax.query 9 1 2 3 4 5 ∷ syntax.query 10 1 2 3 4 5 ∷ syntax.query 11 1 2 3 4 5 ∷ []
+  pub commands-of : map (λ kind. syntax.cmd-of (node-of kind)) (16 ∷ 17 ∷ 18 ∷ 19 ∷ 20 ∷ 21 ∷ 22 ∷ 23 ∷ 24 ∷ 25 ∷ 26 ∷ [])
+      ≡ syntax.skip ∷ syntax.assign 1 2 ∷ syntax.seq 2 3 ∷ syntax.branch 2 3 4 ∷ syntax.while 2 3 ∷ syntax.put 1 2 3 4 ∷ syntax.clear 1 2 3
+      ∷ syntax.out 1 2 ∷ syntax.grant 1 2 3 ∷ syntax.revoke 1 2 3 ∷ syntax.raise 1 2 ∷ []
   -- ---- expressions
   -- signed 32 bits
   pub limits : map Rules.fits-32 (pos 2147483647 ∷ pos 2147483648 ∷ negsuc 2147483647 ∷ negsuc 2147483648 ∷ []) ≡ true ∷ false ∷ true ∷ false ∷ []
