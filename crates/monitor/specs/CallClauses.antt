@@ -1,21 +1,18 @@
 -- What each part of a call gives, at its limits: the clauses of Call.antt one by one.
 use mathlib.Core.Path.{_≡_}
 use mathlib.Core.List.{List, [], _∷_, _++_, map}
-use mathlib.Core.Bool.{Bool, true, false}
+use mathlib.Core.Bool.{true, false}
 use Prim.Native.Nat.{ℕ, _+_, _^_}
-use lib.IntN.{ℤ, pos, negsuc}
-use lib.ListN.{length, getD, take, drop, replicate}
-use Rattle.book.specs.Records.{Book}
+use lib.IntN.{pos, negsuc}
+use lib.ListN.{getD, take, drop, replicate}
 use Rattle.book.specs.declared.Verdict.{Verdict}
 use Rattle.book.specs.declared.Verdict.the-variants as verdicts
-use Rattle.monitor.specs.Labelled.{Label, Lab, lit}
-use Rattle.monitor.specs.Run.{Cell, held, absent, State, said, changed, Out, done, stop}
+use Rattle.monitor.specs.Labelled.{lit}
+use Rattle.monitor.specs.Run.{held, absent, said, changed, Out, done, stop}
 use Rattle.monitor.specs.Call
 use Rattle.monitor.specs.Marked.{w-file}
-use Rattle.monitor.specs.Samples.{labelled, eight, sample-cells, sample, small}
-use Rattle.monitor.specs.declared.Answer.{Answer}
+use Rattle.monitor.specs.Samples.{eight, sample-cells, sample, small}
 use Rattle.monitor.specs.declared.Answer.the-variants.{Refused, Stopped, Finished}
-use Rattle.monitor.specs.declared.Values.{Values}
 
 -- ---- lent memory for the clauses
 

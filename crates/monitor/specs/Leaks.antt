@@ -4,7 +4,7 @@
 use mathlib.Core.List.{List, [], _∷_, _++_}
 use mathlib.Core.Bool.{true}
 use Prim.Native.Nat.{ℕ}
-use lib.IntN.{ℤ, pos}
+use lib.IntN.{pos}
 use Rattle.book.specs.Records.{CellRecord, NodeRecord, TriggerRecord, Book}
 use Rattle.monitor.specs.Tables.{cell, owner-region, table-region, may-read, may-write, constant, variable, count, sum, skip, assign, both, if, put, clear, out, grant-read, program, trigger, Row, ran, Shows, run-list, shows, told}
 

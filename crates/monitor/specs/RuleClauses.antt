@@ -1,12 +1,12 @@
 -- What each rule gives, at its limits: the clauses of Rules.antt one by one, with stand-ins for a node's children.
 use mathlib.Core.Path.{_≡_}
 use mathlib.Core.List.{List, [], _∷_, map}
-use mathlib.Core.Bool.{Bool, true, false, cond}
+use mathlib.Core.Bool.{true, false, cond}
 use Prim.Native.Nat.{ℕ, _+_, _%_, _^_}
 use lib.Dec.{eqb}
 use lib.IntN.{ℤ, pos, negsuc}
-use Rattle.book.specs.Records.{NodeRecord, TriggerRecord}
-use Rattle.monitor.specs.Labelled.{Label, Lab, lit}
+use Rattle.book.specs.Records.{NodeRecord}
+use Rattle.monitor.specs.Labelled.{Lab, lit}
 use Rattle.monitor.specs.Run.{Cell, held, absent, State, said, changed, Out, done, M}
 use Rattle.monitor.specs.Rules
 use Rattle.monitor.specs.Syntax as syntax

@@ -1,11 +1,11 @@
 -- What each step of a run gives, at its limits: the clauses of Labelled.antt and Run.antt one by one.
 use mathlib.Core.Path.{_≡_}
-use mathlib.Core.List.{List, [], _∷_, map}
-use mathlib.Core.Bool.{Bool, true, false}
+use mathlib.Core.List.{[], _∷_, map}
+use mathlib.Core.Bool.{true, false}
 use Prim.Native.Nat.{ℕ, _+_}
-use lib.IntN.{ℤ, pos, negsuc, _-ℤ_}
-use Rattle.monitor.specs.Labelled.{Label, bottom, Lab, lit, lift, lift2, via, under}
-use Rattle.monitor.specs.Run.{Cell, held, absent, Rights, said, changed, Out, done, stop, M, after, next, _>>_, each, when, Test, plainly, inside, guard, need, commit, update, spend, with-vars, with-cells, recorded, pay, set-var, set-cell, tell, sixteen, restore, own}
+use lib.IntN.{pos, negsuc, _-ℤ_}
+use Rattle.monitor.specs.Labelled.{lit, lift, lift2, via, under}
+use Rattle.monitor.specs.Run.{held, absent, Rights, said, done, stop, M, next, each, when, Test, plainly, inside, guard, need, update, spend, with-vars, with-cells, recorded, pay, set-var, set-cell, tell, sixteen, own}
 use Rattle.monitor.specs.Samples.{went, halted, ending, final, counts, labelled, eight, sample, having}
 
 -- ---- runs to put together
