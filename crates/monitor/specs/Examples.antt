@@ -218,6 +218,9 @@ examples =
     ∷ run-list (posting [] cleared 12 (trigger 0 2 3 8 ∷ [])) (shows 0 0 19 8 (told 1 ∷ []))
     ∷ []
 
+abbrev pub Examples : Type 0
+Examples = Shows (ran true) examples
+
 -- the run with no labels omits tests 25, 26, 27 and 29 and is otherwise the same
 unfoldable pub unlabelled : List (Row Book)
 unlabelled =
@@ -242,6 +245,3 @@ unlabelled =
 
 abbrev pub Unlabelled : Type 0
 Unlabelled = Shows (ran false) unlabelled
-
-abbrev pub Examples : Type 0
-Examples = Shows (ran true) examples
