@@ -1,14 +1,14 @@
 -- Chains of refusals, `and-then v (and-then w ..)`. For a function that returns the first: at the return after the third,
 -- `sym (passes _ h₁ ∙ (passes _ h₂ ∙ stops _ h₃))`. Assumes nothing.
 use mathlib.Core.Path.{_≡_, refl, sym, ap}
-use mathlib.Core.Bool.{Bool, true, false}
+use mathlib.Core.Bool.{Bool, true, false, cond}
 use mathlib.Core.List.{List}
 use Prim.Native.Nat.{ℕ, _≤_, _<_}
 use native.Mathlib.Omega.{arith}
 use lib.Dec.{ltb}
 use borrow.Author.Tests.{lt-ltb, le-ltb, ltb-false}
 use Rattle.book.specs.Layout.{count, decode}
-use Rattle.book.specs.Refusals.{and-then, need, first, blame, bad-cell, bad-region, bad-right, bad-node, bad-program, bad-trigger, book-verdict}
+use Rattle.book.specs.Refusals.{verdict-values, and-then, need, first, blame, bad-cell, bad-region, bad-right, bad-node, bad-program, bad-trigger, book-verdict}
 use Rattle.book.specs.declared.Verdict.{Verdict}
 use Rattle.book.specs.declared.Verdict.the-variants.{Accepted, Refused}
 use Rattle.book.proofs.Decoded.{count-cells, count-regions, count-rights, count-nodes, count-programs, count-triggers}
@@ -29,6 +29,12 @@ need-passes number e = rw e
 pub need-stops : (number : ℕ) {test : Bool} → test ≡ false → need number test ≡ Refused number 0
 unfolding need
 need-stops number e = rw e
+
+-- a test before others, in numbers
+pub need-values : (number : ℕ) (test : Bool) (w : Verdict) → verdict-values (and-then (need number test) w) ≡ cond test (verdict-values w) (record { number = number; index = 0 })
+unfolding and-then need verdict-values
+need-values number true w = refl
+need-values number false w = refl
 
 -- i is the first bad one of m records, as the code finds it
 module _ (number : ℕ) (bad : ℕ → Bool) (n : ℕ) {i m : ℕ} (e : i ≡ first bad n) (q : m ≡ n) where

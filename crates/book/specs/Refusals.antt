@@ -13,6 +13,16 @@ use Rattle.book.specs.Kinds.{no-kind, expression, command, variable, tab
 use Rattle.book.specs.declared.Verdict.{Verdict}
 use Rattle.book.specs.declared.Verdict.the-variants.{Accepted, Refused}
 
+-- a verdict in the paper's numbers
+pub record VerdictValues : Type 0 where
+  pub number : ℕ
+  pub index : ℕ
+
+-- of a file that is accepted both are 0
+unfoldable pub verdict-values : Verdict → VerdictValues
+verdict-values Accepted = record { number = 0; index = 0 }
+verdict-values (Refused number index) = record { number = number; index = index }
+
 -- the first of two verdicts that refuses
 unfoldable pub and-then : Verdict → Verdict → Verdict
 and-then Accepted v = v

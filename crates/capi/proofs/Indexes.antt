@@ -7,29 +7,28 @@ use native.Mathlib.Omega.{arith}
 use lib.Dec.{ltb, lit<}
 use borrow.Author.Tests.{ltb-true}
 use Rattle.book.specs.Layout.{decode}
-use Rattle.book.specs.Refusals.{and-then, need, first, blame, book-verdict, verdict}
+use Rattle.book.specs.Refusals.{verdict-values, and-then, need, first, blame, book-verdict, verdict}
 use Rattle.book.specs.declared.Verdict.{Verdict}
 use Rattle.book.specs.declared.Verdict.the-variants.{Accepted, Refused}
 use Rattle.book.proofs.Accepted.{Sited, sited}
 use Rattle.book.proofs.Verdicts.{need-accepts, counted}
-use Rattle.capi.specs.Calls.{loaded}
 
--- the index that C is given
+-- the index that is told
 abbrev pub Low : Verdict → Type 0
-Low v = loaded v .at < 1024
+Low v = verdict-values v .index < 1024
 
 pub low-need : (number : ℕ) (test : Bool) → Low (need number test)
-unfolding need loaded
+unfolding need verdict-values
 low-need number true = lit< tt
 low-need number false = lit< tt
 
 pub low-then : (v w : Verdict) → Low v → (v ≡ Accepted → Low w) → Low (and-then v w)
-unfolding and-then loaded
+unfolding and-then verdict-values
 low-then Accepted w l h = h refl
 low-then (Refused number index) w l h = l
 
 low-blame : (number : ℕ) (bad : ℕ → Bool) (n : ℕ) → n ≤ 1024 → Low (blame number bad n)
-unfolding blame loaded
+unfolding blame verdict-values
 low-blame number bad n h = go (ltb (first bad n) n) refl
   where
     go : (b : Bool) → ltb (first bad n) n ≡ b → Low (cond b (Refused number (first bad n)) Accepted)

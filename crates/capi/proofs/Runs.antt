@@ -8,7 +8,7 @@ use lib.Dec.{eqb, leb, lit<, lit≤}
 use lib.ListN.{length}
 use borrow.Author.Tests.{leb-true}
 use Rattle.book.specs.Layout.{decode}
-use Rattle.book.specs.Refusals.{need, verdict}
+use Rattle.book.specs.Refusals.{verdict-values, need, verdict}
 use Rattle.book.specs.declared.Verdict.{Verdict}
 use Rattle.book.proofs.Chains.{both}
 use Rattle.book.proofs.Verdicts.{accepts-both, need-accepts}
@@ -16,7 +16,7 @@ use Rattle.monitor.specs.Run.{Out}
 use Rattle.monitor.specs.Call.{Memory, Result, values, script, start-state, run-book, call-verdict, result-of, answered, call}
 use Rattle.monitor.specs.declared.Answer.{Answer}
 use Rattle.monitor.specs.declared.Values.{Values}
-use Rattle.capi.specs.Calls.{loaded, ran, run-numbers, run-call}
+use Rattle.capi.specs.Calls.{ran, run-numbers, run-call}
 use Rattle.capi.proofs.Indexes.{Low, low-need, low-then, low-verdict}
 use Rattle.capi.proofs.Fields.{named}
 use Rattle.capi.proofs.Bounds.{Within, ends, halts, keeps-run}
@@ -35,7 +35,7 @@ small-result budget m l (halts h n) = record { at = n; bytes = omega arith }
 
 module _ (file : List ℕ) (budget : ℕ) (m : Memory) where
   small : (v : Verdict) → call-verdict file budget m ≡ v → Low v → Small (values (answered true file budget m v .answer))
-  unfolding call-verdict answered run-book start-state values loaded
+  unfolding call-verdict answered run-book start-state values verdict-values
   small (verdicts.Refused number index) e l = record { at = l; bytes = lit≤ tt }
   small verdicts.Accepted e l =
       let passed = accepts-both (need 1 _) (verdict file) e in

@@ -8,7 +8,7 @@ use lib.IntN.{ℤ}
 use lib.ListN.{length, length-append}
 use Rattle.book.specs.Records.{cells-format, regions-format, rights-format, nodes-format, programs-format, triggers-format}
 use Rattle.book.specs.Layout.{decode}
-use Rattle.book.specs.Refusals.{need, verdict}
+use Rattle.book.specs.Refusals.{verdict-values, need, verdict}
 use Rattle.book.specs.Encode.{extents, pairs, other-sections, trailer-bytes, encode, cells-from, with-cells}
 use Rattle.book.specs.declared.Verdict.{Verdict}
 use Rattle.book.proofs.Accepted.{placed}
@@ -16,8 +16,8 @@ use Rattle.book.proofs.Decoded.{count-regions, count-rights, count-nodes, count
 use Rattle.book.proofs.Verdicts.{accepts-both}
 use Rattle.encoder.proofs.Codec.{length-section, cells-codec, regions-codec, rights-codec, nodes-codec, programs-codec, triggers-codec}
 use Rattle.encoder.proofs.Writes.{cells-few}
-use Rattle.writer.specs.Write.{write-fits, write-verdict, rewritten, write-answer}
-use Rattle.capi.specs.Calls.{loaded, written, WriteCall, write-numbers, write-call}
+use Rattle.writer.specs.Write.{written-values, write-fits, write-verdict, rewritten, write-answer}
+use Rattle.capi.specs.Calls.{written, WriteCall, write-numbers, write-call}
 use Rattle.capi.specs.declared.Answered.{Answered}
 use Rattle.capi.proofs.Indexes.{Low, low-need, low-then, low-verdict}
 use Rattle.book.specs.declared.Verdict.the-variants as verdicts
@@ -54,14 +54,14 @@ module _ (file : List ℕ) (amounts : List ℤ) (presence out : List ℕ) where
         t .few-triggers,
       ))
 
-  -- the index and the length that C is given
+  -- the index and the bytes that C is given
   low : (v : Verdict) → Low v → written (write-answer v (rewritten file amounts presence)) .at < 1024
-  unfolding written loaded
+  unfolding written written-values verdict-values
   low verdicts.Accepted l = lit< tt
   low (verdicts.Refused number index) l = l
 
-  small : (v : Verdict) → (v ≡ verdicts.Accepted → verdict file ≡ verdicts.Accepted) → written (write-answer v (rewritten file amounts presence)) .length ≤ 60000
-  unfolding written
+  small : (v : Verdict) → (v ≡ verdicts.Accepted → verdict file ≡ verdicts.Accepted) → written (write-answer v (rewritten file amounts presence)) .bytes ≤ 60000
+  unfolding written written-values
   small verdicts.Accepted h = length-new (h refl)
   small (verdicts.Refused number index) h = lit≤ tt
 
@@ -69,23 +69,23 @@ module _ (file : List ℕ) (amounts : List ℤ) (presence out : List ℕ) where
   unfolding write-call write-numbers writer.write-call write-verdict
   write-low = low _ (low-then _ _ (low-need 1 _) λ _. low-verdict file)
 
-  write-small : write-call file amounts presence out .answer .length ≤ 60000
+  write-small : write-call file amounts presence out .answer .bytes ≤ 60000
   unfolding write-call write-numbers writer.write-call write-verdict
   write-small = small (write-verdict file amounts presence out) (λ e. accepts-both (need 1 (write-fits amounts presence out)) _ e .1)
 
   module _ (a : answers.Written) (o : List ℕ) (e : record { answer = a; out = o } ≡ writer.write-call file amounts presence out) where
     module _ (number index : ℕ) (q : a ≡ writtens.Refused number index) where
-      pub write-refused : (r : Answered) → r ≡ record { number = number; at = index; length = 0 } → record { answer = r; out = o } ≡ write-call file amounts presence out
-      unfolding write-call write-numbers written
+      pub write-refused : (r : Answered) → r ≡ record { number = number; at = index; bytes = 0 } → record { answer = r; out = o } ≡ write-call file amounts presence out
+      unfolding write-call write-numbers written written-values
       write-refused r t = rw t (rw q at (ap write-numbers e))
 
       pub write-index : index < 1024
       write-index = omega (arith, write-low, ap (λ (c : WriteCall). c .answer .at) (write-refused _ refl))
 
     module _ (n : ℕ) (q : a ≡ writtens.Wrote n) where
-      pub write-wrote : (r : Answered) → r ≡ record { number = 0; at = 0; length = n } → record { answer = r; out = o } ≡ write-call file amounts presence out
-      unfolding write-call write-numbers written
+      pub write-wrote : (r : Answered) → r ≡ record { number = 0; at = 0; bytes = n } → record { answer = r; out = o } ≡ write-call file amounts presence out
+      unfolding write-call write-numbers written written-values
       write-wrote r t = rw t (rw q at (ap write-numbers e))
 
-      pub write-length : n ≤ 60000
-      write-length = omega (arith, write-small, ap (λ (c : WriteCall). c .answer .length) (write-wrote _ refl))
+      pub write-bytes : n ≤ 60000
+      write-bytes = omega (arith, write-small, ap (λ (c : WriteCall). c .answer .bytes) (write-wrote _ refl))

@@ -3,16 +3,15 @@ use mathlib.Core.List.{List}
 use mathlib.Core.Bool.{true}
 use Prim.Native.Nat.{ℕ}
 use lib.IntN.{ℤ}
+use Rattle.book.specs.Refusals.{verdict-values}
 use Rattle.book.specs.declared.Verdict.{Verdict}
 use Rattle.monitor.specs.Call.{Memory, Result, values, call}
 use Rattle.monitor.specs.declared.Answer.{Answer}
 use Rattle.capi.specs.declared.Ran.{Ran}
 use Rattle.capi.specs.declared.Answered.{Answered}
-use Rattle.book.specs.declared.Verdict.the-variants as verdicts
 use Rattle.loader.specs.Load as loader
 use Rattle.writer.specs.Write as writer
 use Rattle.writer.specs.declared.Written as answers
-use Rattle.writer.specs.declared.Written.the-variants as writtens
 
 -- ---- running
 
@@ -34,10 +33,9 @@ run-call file budget m = run-numbers (call true file budget m)
 
 -- ---- loading
 
--- nothing is written, so that the length is 0
+-- nothing is written
 unfoldable pub loaded : Verdict → Answered
-loaded verdicts.Accepted = record { number = 0; at = 0; length = 0 }
-loaded (verdicts.Refused number index) = record { number = number; at = index; length = 0 }
+loaded v = record { number = verdict-values v .number; at = verdict-values v .index; bytes = 0 }
 
 pub record LoadCall : Type 0 where
   pub answer : Answered
@@ -55,8 +53,7 @@ load-call file amounts presence labels = load-numbers (loader.load-call file amo
 -- ---- writing
 
 unfoldable pub written : answers.Written → Answered
-written (writtens.Refused number index) = record { number = number; at = index; length = 0 }
-written (writtens.Wrote length) = record { number = 0; at = 0; length = length }
+written w = record { number = writer.written-values w .number; at = writer.written-values w .index; bytes = writer.written-values w .bytes }
 
 pub record WriteCall : Type 0 where
   pub answer : Answered

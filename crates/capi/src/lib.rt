@@ -13,23 +13,24 @@ pub struct Ran {
     pub bytes: u32,
 }
 
-// How loading or writing ended: the refusal's number, 0 if there was none, and its index; the length written, 0 for a load.
+// How loading or writing ended: the refusal's number, 0 if there was none, and its index; the bytes written, 0 for a load.
+// The header calls these `length`.
 #[repr(C)]
 pub struct Answered {
     pub number: u32,
     pub at: u32,
-    pub length: u32,
+    pub bytes: u32,
 }
 
 // An answer in 32 bits: a refusal's index is below 1,024, and a book has at most 60,000 bytes.
-fn told(number: u32, index: usize, length: usize) -> Answered
-    requires { ⌜ (index < 1024) × (length ≤ 60000) ⌝ }
-    ensures { λ r. ⌜ r ≡ record { number = number; at = index; length = length } ⌝ }
+fn told(number: u32, index: usize, bytes: usize) -> Answered
+    requires { ⌜ (index < 1024) × (bytes ≤ 60000) ⌝ }
+    ensures { λ r. ⌜ r ≡ record { number = number; at = index; bytes = bytes } ⌝ }
 {
     Answered {
         number,
         at: index as u32,
-        length: length as u32,
+        bytes: bytes as u32,
     }
 }
 
@@ -85,6 +86,6 @@ pub extern "C" fn kagyurma_write(
 {
     match writer::write(file, amounts, presence, out) {
         writer::Written::Refused(number, index) => told(number, index, 0),
-        writer::Written::Wrote(length) => told(0, 0, length),
+        writer::Written::Wrote(bytes) => told(0, 0, bytes),
     }
 }

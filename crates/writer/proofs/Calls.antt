@@ -5,12 +5,12 @@ use mathlib.Core.Bool.{true, false}
 use Prim.Native.Nat.{ℕ}
 use lib.IntN.{ℤ}
 use lib.ListN.{length, drop}
-use Rattle.book.specs.Refusals.{verdict}
+use Rattle.book.specs.Refusals.{verdict-values, verdict}
 use Rattle.book.specs.declared.Verdict.{Verdict}
 use Rattle.book.specs.declared.Verdict.the-variants.{Accepted, Refused}
 use Rattle.book.proofs.Verdicts.{passes, stops, need-passes, need-stops}
 use Rattle.loader.specs.Load.{where-accepted}
-use Rattle.writer.specs.Write.{write-fits, write-verdict, rewritten, write-answer, WriteCall, write-call}
+use Rattle.writer.specs.Write.{written-values, write-fits, write-verdict, rewritten, write-answer, WriteCall, write-call, WriteValues}
 use Rattle.writer.specs.declared.Written.the-variants as writtens
 
 module _ (file : List ℕ) (amounts : List ℤ) (presence out : List ℕ) where
@@ -41,3 +41,15 @@ module _ (file : List ℕ) (amounts : List ℤ) (presence out : List ℕ) where
     write-accepted n o q x y =
         let z : o ≡ rewritten file amounts presence ++ drop (length (rewritten file amounts presence)) out = y ∙ rw x in
         (λ i. record { answer = writtens.Wrote (x i); out = z i }) ∙ (rw q at write-file)
+
+-- the answer by its verdict, in numbers
+answer-values : (v : Verdict) (new : List ℕ)
+    → written-values (write-answer v new) ≡ record { number = verdict-values v .number; index = verdict-values v .index; bytes = where-accepted v (length new) 0 }
+unfolding written-values verdict-values
+answer-values Accepted new = refl
+answer-values (Refused number index) new = refl
+
+pub write-values : WriteValues
+unfolding write-call
+write-values file amounts presence out o r e =
+    ap (λ (x : WriteCall). written-values (x .answer)) e ∙ answer-values (write-verdict file amounts presence out) (rewritten file amounts presence)
