@@ -6,13 +6,13 @@ use Prim.Native.Nat.{ℕ}
 use lib.IntN.{ℤ}
 use borrow.Author.Tests.{eq-eqb}
 use Rattle.book.specs.Layout.{decode}
-use Rattle.book.specs.Refusals.{verdict}
+use Rattle.book.specs.Refusals.{verdict-values, verdict}
 use Rattle.book.specs.Start.{Lengths, start-amounts, start-presence, start-labels}
 use Rattle.book.specs.declared.Verdict.{Verdict}
 use Rattle.book.specs.declared.Verdict.the-variants.{Accepted, Refused}
 use Rattle.book.proofs.Chains.{pass}
-use Rattle.book.proofs.Verdicts.{passes, stops, need-passes, need-stops}
-use Rattle.loader.specs.Load.{where-accepted, lent-fits, load-verdict, Loaded, load-call}
+use Rattle.book.proofs.Verdicts.{passes, stops, need-passes, need-stops, need-values}
+use Rattle.loader.specs.Load.{where-accepted, lent-fits, load-verdict, Loaded, load-call, LoadValues}
 
 -- lent memory of the right lengths passes refusal 1
 pub lent : {amounts : List ℤ} {presence labels : List ℕ} → Lengths amounts presence labels → lent-fits amounts presence labels ≡ true
@@ -49,3 +49,7 @@ module _ (file : List ℕ) (amounts : List ℤ) (presence labels : List ℕ) whe
     pub load-accepted : (a : List ℤ) (p l : List ℕ) → v ≡ Accepted → a ≡ start-amounts (decode file) → p ≡ start-presence (decode file) → l ≡ start-labels
         → record { answer = Accepted; amounts = a; presence = p; labels = l } ≡ load-call file amounts presence labels
     load-accepted a p l q x y z = (λ i. record { answer = Accepted; amounts = x i; presence = y i; labels = z i }) ∙ (rw q at load-file)
+
+pub load-values : LoadValues
+unfolding load-call load-verdict
+load-values file amounts a presence p labels l r e = ap (λ (x : Loaded). verdict-values (x .answer)) e ∙ need-values 1 (lent-fits amounts presence labels) (verdict file)

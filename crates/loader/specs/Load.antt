@@ -1,12 +1,13 @@
 -- Loading: from all that the call is given to all that it leaves.
+use mathlib.Core.Path.{_≡_}
 use mathlib.Core.List.{List}
-use mathlib.Core.Bool.{Bool, _&&_}
+use mathlib.Core.Bool.{Bool, _&&_, cond}
 use Prim.Native.Nat.{ℕ}
 use lib.Dec.{eqb}
 use lib.IntN.{ℤ}
 use lib.ListN.{length}
 use Rattle.book.specs.Layout.{decode}
-use Rattle.book.specs.Refusals.{and-then, need, verdict}
+use Rattle.book.specs.Refusals.{verdict-values, and-then, need, verdict}
 use Rattle.book.specs.Start.{start-amounts, start-presence, start-labels}
 use Rattle.book.specs.declared.Verdict.{Verdict}
 use Rattle.book.specs.declared.Verdict.the-variants.{Accepted, Refused}
@@ -40,3 +41,10 @@ load-call file amounts presence labels =
       presence = where-accepted v (start-presence (decode file)) presence;
       labels = where-accepted v start-labels labels;
     }
+
+-- what `load` ensures of its answer, in the paper's numbers: 1 with index 0 for a lent length, else those of the file's verdict
+abbrev pub LoadValues : Type 0
+LoadValues =
+    (file : List ℕ) (amounts a : List ℤ) (presence p labels l : List ℕ) (r : Verdict)
+    → record { answer = r; amounts = a; presence = p; labels = l } ≡ load-call file amounts presence labels
+    → verdict-values r ≡ cond (lent-fits amounts presence labels) (verdict-values (verdict file)) (record { number = 1; index = 0 })
