@@ -8,3 +8,4 @@ pub mod Verdicts
 pub mod Accepted
 pub mod Tabulate
 pub mod Costs
+pub mod Examples

@@ -5,3 +5,5 @@ pub mod Kinds
 pub mod Refusals
 pub mod Start
 pub mod Encode
+pub mod Tables
+pub mod Examples

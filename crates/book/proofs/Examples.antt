@@ -1,0 +1,69 @@
+-- The worked examples hold, by computation: every definition that they compute with is opened in one place. Assumes nothing.
+use mathlib.Core.Path.{_≡_, refl}
+use Rattle.places.specs.Sets.{has, word-of, set-of}
+use Rattle.regions.specs.Regions.{in-region}
+use Rattle.labels.proofs.Labels.{length-own, label-own}
+use Rattle.book.specs.Records.{records, section-bytes, cells-format, regions-format, rights-format, nodes-format, programs-format, triggers-format}
+use Rattle.book.specs.Layout.{in-order, bounds, decode}
+use Rattle.book.specs.Kinds.{cost-of, sort-of, fields-of, row-of}
+use Rattle.book.specs.Refusals.{and-then, need, first, blame, length-fits, marked, mark-fits, sections-fit, cell-fits, rises, bad-cell, region-fits, bad-region, right-fits, bad-right, field-fits, is-zero, node-fits, is-command, program-fits, bad-program, forbidden, reaches, trigger-fits, bad-trigger, book-verdict, verdict}
+use Rattle.book.specs.Start.{tabulate, amount-at, start-amounts, start-presence, rights-hold, right-set}
+use Rattle.book.specs.Encode.{extents, distance-to-end, pairs, other-sections, trailer-bytes, encode, cells-from, with-cells}
+use Rattle.book.specs.Tables.{w-file}
+use Rattle.book.specs.Examples.{each-file, Examples}
+
+pub worked-examples : Examples
+unfolding has word-of set-of in-region records section-bytes cells-format regions-format rights-format nodes-format programs-format triggers-format in-order bounds decode cost-of sort-of fields-of row-of and-then need first blame length-fits marked mark-fits sections-fit cell-fits rises bad-cell region-fits bad-region right-fits bad-right field-fits is-zero node-fits is-command program-fits bad-program forbidden reaches trigger-fits bad-trigger book-verdict verdict tabulate amount-at start-amounts start-presence rights-hold right-set extents distance-to-end pairs other-sections trailer-bytes encode cells-from with-cells w-file each-file
+worked-examples = record {
+  files = record {
+    lengths = record { passes = refl; fails = refl };
+    longest = λ s h. rw h refl;
+    too-long = λ s h. rw h refl;
+    marks = record { passes = refl; fails = refl };
+    sections = record { passes = refl; fails = refl };
+    counts = record { passes = refl; fails = refl };
+    most = refl;
+    verdicts = refl;
+  };
+  records = record {
+    firsts = refl;
+    verdicts = refl;
+    cells = record { passes = refl; fails = refl };
+    order = record { passes = refl; fails = refl };
+    regions = record { passes = refl; fails = refl };
+    rights = record { passes = refl; fails = refl };
+    expressions = record { passes = refl; fails = refl };
+    commands = record { passes = refl; fails = refl };
+    variables = record { passes = refl; fails = refl };
+    tables = record { passes = refl; fails = refl };
+    users = record { passes = refl; fails = refl };
+    named-regions = record { passes = refl; fails = refl };
+    read-or-write = record { passes = refl; fails = refl };
+    unnamed = record { passes = refl; fails = refl };
+    nodes = record { passes = refl; fails = refl };
+    programs = record { passes = refl; fails = refl };
+    forbidding = record { passes = refl; fails = refl };
+    reaching = record { passes = refl; fails = refl };
+    triggers = record { passes = refl; fails = refl };
+    farthest = record { passes = refl; fails = refl };
+  };
+  kind-rows = refl;
+  starts = record {
+    lent = record { amounts-are = refl; presence-is = refl; labels-are = refl };
+    amounts = refl;
+    presence = refl;
+    label-words = length-own 512;
+    labels = label-own 512;
+    publics = refl;
+    reads = refl;
+    writes = refl;
+  };
+  bytes = record {
+    w-read = refl;
+    w-written = refl;
+    each-read = refl;
+    each-written = refl;
+    rewritten = refl;
+    same-scripts = λ b b' h. rw (h .regions, h .rights, h .nodes, h .programs, h .triggers) refl;
+  };
+}
