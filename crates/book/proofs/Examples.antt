@@ -10,10 +10,10 @@ use Rattle.book.specs.Refusals.{and-then, need, first, blame, length-fit
 use Rattle.book.specs.Start.{tabulate, amount-at, start-amounts, start-presence, rights-hold, right-set}
 use Rattle.book.specs.Encode.{extents, distance-to-end, pairs, other-sections, trailer-bytes, encode, cells-from, with-cells}
 use Rattle.book.specs.Tables.{w-file}
-use Rattle.book.specs.Examples.{each-file, Examples}
+use Rattle.book.specs.Examples.{each-file, large-trailer, Examples}
 
 pub worked-examples : Examples
-unfolding has word-of set-of in-region records section-bytes cells-format regions-format rights-format nodes-format programs-format triggers-format in-order bounds decode cost-of sort-of fields-of row-of and-then need first blame length-fits marked mark-fits sections-fit cell-fits rises bad-cell region-fits bad-region right-fits bad-right field-fits is-zero node-fits is-command program-fits bad-program forbidden reaches trigger-fits bad-trigger book-verdict verdict tabulate amount-at start-amounts start-presence rights-hold right-set extents distance-to-end pairs other-sections trailer-bytes encode cells-from with-cells w-file each-file
+unfolding has word-of set-of in-region records section-bytes cells-format regions-format rights-format nodes-format programs-format triggers-format in-order bounds decode cost-of sort-of fields-of row-of and-then need first blame length-fits marked mark-fits sections-fit cell-fits rises bad-cell region-fits bad-region right-fits bad-right field-fits is-zero node-fits is-command program-fits bad-program forbidden reaches trigger-fits bad-trigger book-verdict verdict tabulate amount-at start-amounts start-presence rights-hold right-set extents distance-to-end pairs other-sections trailer-bytes encode cells-from with-cells w-file each-file large-trailer
 worked-examples = record {
   files = record {
     lengths = record { passes = refl; fails = refl };
@@ -27,6 +27,7 @@ worked-examples = record {
   };
   records = record {
     firsts = refl;
+    first-of-none = refl;
     verdicts = refl;
     cells = record { passes = refl; fails = refl };
     order = record { passes = refl; fails = refl };
@@ -43,8 +44,10 @@ worked-examples = record {
     nodes = record { passes = refl; fails = refl };
     programs = record { passes = refl; fails = refl };
     forbidding = record { passes = refl; fails = refl };
+    steps = record { passes = refl; fails = refl };
     reaching = record { passes = refl; fails = refl };
     triggers = record { passes = refl; fails = refl };
+    bodies = record { passes = refl; fails = refl };
     farthest = record { passes = refl; fails = refl };
   };
   kind-rows = refl;
@@ -63,6 +66,7 @@ worked-examples = record {
     w-written = refl;
     each-read = refl;
     each-written = refl;
+    trailer-written = refl;
     rewritten = refl;
     same-scripts = λ b b' h. rw (h .regions, h .rights, h .nodes, h .programs, h .triggers) refl;
   };

@@ -14,9 +14,9 @@ use Rattle.book.specs.Records.{CellRecord, RegionRecord, RightRecord, No
 use Rattle.book.specs.Layout.{Bound, bounds, in-order, decode}
 use Rattle.book.specs.Kinds as kinds
 use Rattle.book.specs.Kinds.{no-kind, expression, command, unused, table, user, region, right, row-of}
-use Rattle.book.specs.Refusals.{first, length-fits, mark-fits, sections-fit, cell-fits, rises, region-fits, right-fits, field-fits, node-fits, is-command, program-fits, forbidden, reaches, trigger-fits, book-verdict, verdict}
+use Rattle.book.specs.Refusals.{first, length-fits, mark-fits, sections-fit, cell-fits, rises, region-fits, right-fits, field-fits, node-fits, program-fits, forbidden, reaches, trigger-fits, book-verdict, verdict}
 use Rattle.book.specs.Start.{Lengths, tabulate, start-amounts, start-presence, start-labels, public-set, read-sets, write-sets}
-use Rattle.book.specs.Encode.{encode, with-cells}
+use Rattle.book.specs.Encode.{trailer-bytes, encode, with-cells}
 use Rattle.book.specs.Tables.{cell, table-region, owner-region, public, may-read, may-write, node, constant, variable, plus, count, skip, assign, both, if, while, put, clear, out, grant-read, grant-write, revoke-read, raise, program, trigger, w-file, w-book, with-byte, one-more, one-less, _⇒_, Gives, Tells}
 use Rattle.book.specs.declared.Row.{Row}
 use Rattle.book.specs.declared.Verdict.the-variants.{Accepted, Refused}
@@ -62,6 +62,25 @@ each-with cells =
 
 abbrev pub each-book : Book
 each-book = each-with (record { table = 0x01; owner = 0x02; line = 0x03; zero = 0x04; amount = negsuc 1 } ∷ [])
+
+-- 5, 4, 3, 258, 2 and 1 records, which is told by their number alone, and the trailer: 4,228 bytes of records
+abbrev pub large-book : Book
+large-book =
+    record {
+      cells = replicate 5 (cell 0 0 0 (pos 0));
+      regions = replicate 4 (table-region 0);
+      rights = replicate 3 (public 0);
+      nodes = replicate 258 skip;
+      programs = replicate 2 (program 0 0);
+      triggers = replicate 1 (trigger 0 1 0 0);
+    }
+
+unfoldable pub large-trailer : List ℕ
+large-trailer =
+    66 ∷ 75 ∷ 87 ∷ 83 ∷ 1 ∷ 0 ∷ 0 ∷ 0
+    -- distances 4264, 4224, 4192, 4180, 52, 44
+    ∷ 0xa8 ∷ 0x10 ∷ 5 ∷ 0 ∷ 0x80 ∷ 0x10 ∷ 4 ∷ 0 ∷ 0x60 ∷ 0x10 ∷ 3 ∷ 0 ∷ 0x54 ∷ 0x10 ∷ 2 ∷ 1 ∷ 52 ∷ 0 ∷ 2 ∷ 0 ∷ 44 ∷ 0 ∷ 1 ∷ 0
+    ∷ 0xa8 ∷ 0x10 ∷ 0 ∷ 0 ∷ []
 
 -- book W's file with the first cell's table wrong; and behind that, one after another, the number of cells, the mark, the length field
 abbrev pub w-cell-bad : List ℕ
@@ -144,12 +163,13 @@ five = constant (pos 0) ∷ skip ∷ constant (pos 1) ∷ constant (pos 2) ∷ s
 abbrev pub sixth-fits : NodeRecord → Bool
 sixth-fits x = node-fits (scripts (five ++ x ∷ [])) 5
 
--- 1 is of a forbidden kind; 3 to 6 have it for their child a, b, c, d; 7 names region 1; 8 reaches skips; 9 reaches 1 by way of 3
-abbrev pub outs : List NodeRecord
-outs =
-    constant (pos 0) ∷ out 0 1 ∷ skip
-    ∷ both 1 2 ∷ both 2 1 ∷ if 0 2 1 ∷ count 0 0 0 0 1
-    ∷ raise 0 1 ∷ both 2 2 ∷ if 0 8 3 ∷ []
+-- 0 is of a forbidden kind; it is child a, b, c, d of 3 to 6, and the only child of 7; 8 names region 0, 9 reaches skips; 10 reaches 0
+-- by way of 4; the fields that a node does not name are 0 too
+abbrev pub granting : List NodeRecord
+granting =
+    grant-read 0 0 ∷ constant (pos 0) ∷ skip
+    ∷ both 0 2 ∷ both 2 0 ∷ if 1 2 0 ∷ count 0 1 1 1 0 ∷ assign 0 0
+    ∷ raise 0 0 ∷ both 2 2 ∷ if 1 9 4 ∷ []
 
 -- each node but the first has the one before for its child, and the first is of a forbidden kind
 abbrev pub chain : List NodeRecord
@@ -252,7 +272,7 @@ pub record FileExamples : Type 0 where
       (map (one-more w-file) (tabulate (λ i. 188 + i) 8) ++ map (one-less w-file) (tabulate (λ i. 188 + i) 5))
   -- the six pairs are bytes 196 to 219, and none of them may be another; nor may there be a gap before the trailer
   pub sections : Tells sections-fit
-      (w-file ∷ [])
+      (w-file ∷ (replicate 4228 0 ++ large-trailer) ∷ [])
       (gap ∷ map (one-more w-file) (tabulate (λ i. 196 + i) 24) ++ map (one-less w-file) (tabulate (λ i. 196 + 4 * i) 6))
   -- W's 9 nodes are not too many where 9 is the most, and they are where 8 is
   pub counts : Tells (in-order w-file 0 0) (most-of 9 ∷ []) (most-of 8 ∷ [])
@@ -271,6 +291,7 @@ pub record FileExamples : Type 0 where
 pub record RecordExamples : Type 0 where
   -- of three records the first bad one; 3 if there is none
   pub firsts : Gives (λ (bad : ℕ → Bool). first bad 3) (eqb 0 ⇒ 0 ∷ leb 1 ⇒ 1 ∷ eqb 2 ⇒ 2 ∷ eqb 3 ⇒ 3 ∷ [])
+  pub first-of-none : first (eqb 0) 0 ≡ 0
   -- of several faults the lowest number, though the bad record is the last of its section; and no fault
   pub verdicts : Gives book-verdict
       (followed cell-last region-last right-last node-last program-last trigger-last ⇒ Refused 5 2
@@ -291,7 +312,7 @@ pub record RecordExamples : Type 0 where
   -- 6: a table up to 7, first ≤ last ≤ 7 for owners and for lines, and bytes 0
   pub regions : Tells region-fits
       (box 7 0 7 7 7 0 ∷ box 0 7 7 0 7 0 ∷ [])
-      (box 8 0 0 0 0 0 ∷ box 0 1 0 0 0 0 ∷ box 0 0 8 0 0 0 ∷ box 0 0 0 1 0 0 ∷ box 0 0 0 0 8 0 ∷ box 0 0 0 0 0 1 ∷ [])
+      (box 8 0 0 0 0 0 ∷ box 0 1 0 0 7 0 ∷ box 0 0 8 0 0 0 ∷ box 0 0 7 1 0 0 ∷ box 0 0 0 0 8 0 ∷ box 0 0 0 0 0 1 ∷ [])
   -- 7: kinds 0 to 2, users up to 7 and for public 0 alone, two regions, and a byte 0
   pub rights : Tells (right-fits (scripts []))
       (public 1 ∷ may-read 7 1 ∷ may-write 7 1 ∷ [])
@@ -318,8 +339,10 @@ pub record RecordExamples : Type 0 where
       (program 8 1 ∷ record { user = 0; zero = 1; root = 1 } ∷ program 0 0 ∷ program 0 5 ∷ [])
   -- 10: kinds 20 and 23 to 25 and not their neighbours
   pub forbidding : Tells forbidden (20 ∷ 23 ∷ 24 ∷ 25 ∷ []) (19 ∷ 21 ∷ 22 ∷ 26 ∷ [])
-  -- each child is followed, and no other field is
-  pub reaching : Tells (reaches (scripts outs) 10) (1 ∷ 3 ∷ 4 ∷ 5 ∷ 6 ∷ 9 ∷ []) (0 ∷ 2 ∷ 7 ∷ 8 ∷ [])
+  -- 3 reaches 0 in one step
+  pub steps : Tells (λ depth. reaches (scripts granting) depth 3) (2 ∷ []) (0 ∷ 1 ∷ [])
+  -- each child is followed, here for two steps, and no other field is
+  pub reaching : Tells (reaches (scripts granting) 3) (0 ∷ 3 ∷ 4 ∷ 5 ∷ 6 ∷ 7 ∷ 10 ∷ []) (1 ∷ 2 ∷ 8 ∷ 9 ∷ [])
   -- two regions, events 1 and 2, users up to 7, a body that is there and is a command, and bytes 0
   pub triggers : Tells (trigger-fits (scripts five))
       (trigger 1 1 7 4 ∷ trigger 0 2 0 1 ∷ [])
@@ -327,7 +350,9 @@ pub record RecordExamples : Type 0 where
       ∷ record { region = 0; event = 1; user = 0; zero = 1; body = 1; zeros = 0 }
       ∷ record { region = 0; event = 1; user = 0; zero = 0; body = 1; zeros = 1 }
       ∷ [])
-  -- and a body that reaches a forbidden kind by way of every node
+  -- a body that reaches no forbidden kind, and one that does; the region's number is a node's by chance
+  pub bodies : Tells (trigger-fits (scripts (grant-read 0 0 ∷ skip ∷ both 1 0 ∷ []))) (trigger 0 1 0 1 ∷ []) (trigger 1 1 0 2 ∷ [])
+  -- and one that does by way of every node
   pub farthest : Tells (trigger-fits (scripts chain)) [] (trigger 0 1 0 2 ∷ [])
 
 pub record StartExamples : Type 0 where
@@ -349,6 +374,7 @@ pub record ByteExamples : Type 0 where
   pub w-written : encode w-book ≡ w-file
   pub each-read : decode each-file ≡ each-book
   pub each-written : encode each-book ≡ each-file
+  pub trailer-written : trailer-bytes large-book ≡ large-trailer
   -- the cells that are present, in the order of their places, and the other sections as they were
   pub rewritten : with-cells three-amounts three-present each-book
       ≡ each-with (cell 0 0 0 (negsuc 0) ∷ cell 1 2 3 (pos 0) ∷ cell 7 7 7 (pos 7) ∷ [])
