@@ -163,13 +163,17 @@ five = constant (pos 0) ∷ skip ∷ constant (pos 1) ∷ constant (pos 2) ∷ s
 abbrev pub sixth-fits : NodeRecord → Bool
 sixth-fits x = node-fits (scripts (five ++ x ∷ [])) 5
 
--- 0 is of a forbidden kind; it is child a, b, c, d of 3 to 6, and the only child of 7; 8 names region 0, 9 reaches skips; 10 reaches 0
--- by way of 4; the fields that a node does not name are 0 too
+-- 2 is of a forbidden kind; it is child a, b, c, d of 3 to 6, and the only child of 7; 8 names region 2; 9 reaches skips; 10 reaches 2
+-- by way of 4
+abbrev pub telling : List NodeRecord
+telling =
+    constant (pos 0) ∷ skip ∷ out 0 0
+    ∷ both 2 1 ∷ both 1 2 ∷ if 0 1 2 ∷ count 0 0 0 0 2 ∷ assign 0 2
+    ∷ raise 0 2 ∷ both 1 1 ∷ if 0 9 4 ∷ []
+
+-- 0 is of a forbidden kind; 4 does not reach it, though the fields that 1, 3 and 4 do not name are 0; 5 does
 abbrev pub granting : List NodeRecord
-granting =
-    grant-read 0 0 ∷ constant (pos 0) ∷ skip
-    ∷ both 0 2 ∷ both 2 0 ∷ if 1 2 0 ∷ count 0 1 1 1 0 ∷ assign 0 0
-    ∷ raise 0 0 ∷ both 2 2 ∷ if 1 9 4 ∷ []
+granting = grant-read 0 0 ∷ skip ∷ constant (pos 0) ∷ both 1 1 ∷ if 2 1 3 ∷ both 1 0 ∷ []
 
 -- each node but the first has the one before for its child, and the first is of a forbidden kind
 abbrev pub chain : List NodeRecord
@@ -305,17 +309,17 @@ pub record RecordExamples : Type 0 where
       ∷ [])
   -- 5: table, owner, line up to 7, and a byte 0
   pub cells : Tells cell-fits
-      (cell 7 7 7 (pos 0) ∷ [])
+      (cell 0 0 0 (pos 0) ∷ cell 7 7 7 (pos 0) ∷ [])
       (cell 8 0 0 (pos 0) ∷ cell 0 8 0 (pos 0) ∷ cell 0 0 8 (pos 0) ∷ record { table = 0; owner = 0; line = 0; zero = 1; amount = pos 0 } ∷ [])
   -- the first cell may stand anywhere, each other above the one before
   pub order : Tells (rises rising) (0 ∷ 1 ∷ 2 ∷ 3 ∷ []) (4 ∷ 5 ∷ [])
   -- 6: a table up to 7, first ≤ last ≤ 7 for owners and for lines, and bytes 0
   pub regions : Tells region-fits
-      (box 7 0 7 7 7 0 ∷ box 0 7 7 0 7 0 ∷ [])
+      (box 7 0 7 0 7 0 ∷ box 0 7 7 0 0 0 ∷ box 0 0 0 7 7 0 ∷ [])
       (box 8 0 0 0 0 0 ∷ box 0 1 0 0 7 0 ∷ box 0 0 8 0 0 0 ∷ box 0 0 7 1 0 0 ∷ box 0 0 0 0 8 0 ∷ box 0 0 0 0 0 1 ∷ [])
   -- 7: kinds 0 to 2, users up to 7 and for public 0 alone, two regions, and a byte 0
   pub rights : Tells (right-fits (scripts []))
-      (public 1 ∷ may-read 7 1 ∷ may-write 7 1 ∷ [])
+      (public 1 ∷ may-read 0 1 ∷ may-read 7 1 ∷ may-write 7 0 ∷ [])
       (holding 3 0 0 0 ∷ holding 0 1 0 0 ∷ may-read 8 0 ∷ may-write 8 0 ∷ may-read 0 2 ∷ holding 0 0 0 1 ∷ [])
   -- 8: a child of node 3 has a lower number and is of its sort
   pub expressions : Tells (field-fits (scripts five) 3 expression) (0 ∷ 2 ∷ []) (1 ∷ 3 ∷ [])
@@ -328,21 +332,21 @@ pub record RecordExamples : Type 0 where
   pub unnamed : Tells (field-fits (scripts five) 3 unused) (0 ∷ []) (1 ∷ [])
   -- nodes of all kinds; then a kind that there is not, p, a, b, c and d out of their roles, k where none is named, and bytes 0
   pub nodes : Tells sixth-fits
-      (constant (negsuc 0) ∷ variable 15 ∷ plus 0 2 ∷ count 7 0 2 3 0
+      (constant (negsuc 0) ∷ variable 15 ∷ plus 0 2 ∷ count 7 0 2 3 2
       ∷ skip ∷ assign 15 2 ∷ both 1 4 ∷ if 0 1 4 ∷ while 0 1 ∷ put 7 0 2 3 ∷ clear 7 0 2
       ∷ out 0 7 ∷ grant-write 1 7 ∷ revoke-read 1 7 ∷ raise 15 1 ∷ [])
       (node 7 0 0 0 0 0 ∷ variable 16 ∷ plus 1 0 ∷ plus 0 1 ∷ put 0 0 0 1 ∷ count 0 0 0 0 1
       ∷ skip-with (pos 1) 0 ∷ skip-with (negsuc 0) 0 ∷ skip-with (pos 0) 1 ∷ [])
   -- 9: users up to 7, a byte 0, and a root that is there and is a command
   pub programs : Tells (program-fits (scripts five))
-      (program 7 4 ∷ [])
+      (program 0 1 ∷ program 7 4 ∷ [])
       (program 8 1 ∷ record { user = 0; zero = 1; root = 1 } ∷ program 0 0 ∷ program 0 5 ∷ [])
   -- 10: kinds 20 and 23 to 25 and not their neighbours
   pub forbidding : Tells forbidden (20 ∷ 23 ∷ 24 ∷ 25 ∷ []) (19 ∷ 21 ∷ 22 ∷ 26 ∷ [])
-  -- 3 reaches 0 in one step
-  pub steps : Tells (λ depth. reaches (scripts granting) depth 3) (2 ∷ []) (0 ∷ 1 ∷ [])
+  -- 3 reaches 2 in one step
+  pub steps : Tells (λ depth. reaches (scripts telling) depth 3) (2 ∷ []) (0 ∷ 1 ∷ [])
   -- each child is followed, here for two steps, and no other field is
-  pub reaching : Tells (reaches (scripts granting) 3) (0 ∷ 3 ∷ 4 ∷ 5 ∷ 6 ∷ 7 ∷ 10 ∷ []) (1 ∷ 2 ∷ 8 ∷ 9 ∷ [])
+  pub reaching : Tells (reaches (scripts telling) 3) (2 ∷ 3 ∷ 4 ∷ 5 ∷ 6 ∷ 7 ∷ 10 ∷ []) (0 ∷ 1 ∷ 8 ∷ 9 ∷ [])
   -- two regions, events 1 and 2, users up to 7, a body that is there and is a command, and bytes 0
   pub triggers : Tells (trigger-fits (scripts five))
       (trigger 1 1 7 4 ∷ trigger 0 2 0 1 ∷ [])
@@ -350,8 +354,8 @@ pub record RecordExamples : Type 0 where
       ∷ record { region = 0; event = 1; user = 0; zero = 1; body = 1; zeros = 0 }
       ∷ record { region = 0; event = 1; user = 0; zero = 0; body = 1; zeros = 1 }
       ∷ [])
-  -- a body that reaches no forbidden kind, and one that does; the region's number is a node's by chance
-  pub bodies : Tells (trigger-fits (scripts (grant-read 0 0 ∷ skip ∷ both 1 0 ∷ []))) (trigger 0 1 0 1 ∷ []) (trigger 1 1 0 2 ∷ [])
+  -- a body that reaches no forbidden kind, and one that does
+  pub bodies : Tells (trigger-fits (scripts granting)) (trigger 0 1 0 4 ∷ []) (trigger 1 1 0 5 ∷ [])
   -- and one that does by way of every node
   pub farthest : Tells (trigger-fits (scripts chain)) [] (trigger 0 1 0 2 ∷ [])
 
