@@ -4,7 +4,7 @@ use Rattle.places.specs.Sets.{single}
 use Rattle.labels.specs.Labels.{own-labels}
 use Rattle.book.specs.Start.{start-amounts, start-presence}
 use Rattle.monitor.specs.Call.{cells-of, amounts-in, presence-in, labels-in, start-cells, start-state, answered}
-use Rattle.monitor.specs.Marked.{w-file}
+use Rattle.book.specs.Tables.{w-file}
 use Rattle.monitor.specs.RunClauses.{RunClauses}
 use Rattle.monitor.specs.RuleClauses.{RuleClauses}
 use Rattle.monitor.specs.CallClauses.{CallClauses}

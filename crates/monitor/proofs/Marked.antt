@@ -1,8 +1,8 @@
 -- The paper's marked cases hold, by computation. Assumes nothing.
 use mathlib.Core.Path.{_≡_, refl}
 use mathlib.Core.List.{[], _∷_}
-use Rattle.monitor.specs.Tables.{program}
-use Rattle.monitor.specs.Marked.{w-file, w-rights, w-nodes, w-file-with, marked, Marked}
+use Rattle.book.specs.Tables.{w-file, w-rights, w-nodes, program}
+use Rattle.monitor.specs.Marked.{w-file-with, marked, Marked}
 use Rattle.monitor.proofs.Tables.{called-quick, by-calling}
 
 -- W's bytes are those of its records

@@ -7,10 +7,10 @@ use lib.IntN.{pos, negsuc}
 use lib.ListN.{getD, take, drop, replicate}
 use Rattle.book.specs.declared.Verdict.{Verdict}
 use Rattle.book.specs.declared.Verdict.the-variants as verdicts
+use Rattle.book.specs.Tables.{w-file}
 use Rattle.monitor.specs.Labelled.{lit}
 use Rattle.monitor.specs.Run.{held, absent, said, changed, Out, done, stop}
 use Rattle.monitor.specs.Call
-use Rattle.monitor.specs.Marked.{w-file}
 use Rattle.monitor.specs.Samples.{eight, sample-cells, sample, small}
 use Rattle.monitor.specs.declared.Answer.the-variants.{Refused, Stopped, Finished}
 

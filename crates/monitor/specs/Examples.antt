@@ -5,8 +5,9 @@ use mathlib.Core.Bool.{true, false}
 use Prim.Native.Nat.{ℕ}
 use lib.IntN.{pos}
 use Rattle.book.specs.Records.{RightRecord, NodeRecord, TriggerRecord, Book}
-use Rattle.monitor.specs.Tables.{cell, table-region, public, may-read, may-write, constant, variable, plus, minus, equals, less, count, sum, smallest, largest, skip, assign, both, if, while, put, clear, out, grant-read, grant-write, revoke-read, revoke-write, raise, program, trigger, Row, ran, Shows, run-list, shows, told, changed}
-use Rattle.monitor.specs.Marked.{w-rights, w-nodes, w-with, beyond, branching}
+use Rattle.book.specs.Tables.{cell, table-region, public, may-read, may-write, constant, variable, plus, minus, equals, less, count, sum, smallest, largest, skip, assign, both, if, while, put, clear, out, grant-read, grant-write, revoke-read, revoke-write, raise, program, trigger, w-rights, w-nodes}
+use Rattle.monitor.specs.Tables.{Row, ran, Shows, run-list, shows, told, changed}
+use Rattle.monitor.specs.Marked.{w-with, beyond, branching}
 
 -- ---- without triggers: W with other nodes from 4 on; nodes 0 to 3 are the constants 0, 1, 2, 7
 

@@ -6,7 +6,8 @@ use mathlib.Core.Bool.{true}
 use Prim.Native.Nat.{ℕ}
 use lib.IntN.{pos}
 use Rattle.book.specs.Records.{CellRecord, NodeRecord, TriggerRecord, Book}
-use Rattle.monitor.specs.Tables.{cell, owner-region, table-region, may-read, may-write, constant, variable, count, sum, skip, assign, both, if, put, clear, out, grant-read, program, trigger, Row, ran, Shows, run-list, shows, told}
+use Rattle.book.specs.Tables.{cell, owner-region, table-region, may-read, may-write, constant, variable, count, sum, skip, assign, both, if, put, clear, out, grant-read, program, trigger}
+use Rattle.monitor.specs.Tables.{Row, ran, Shows, run-list, shows, told}
 
 -- Cell (0,2,0) is the hidden one. User 1 may read table 1; user 0 may write both tables, and user 3, of the triggers, table 1.
 -- Nodes 0 to 2 are the constants 0, 1, 2; node 3 is the hidden amount.

@@ -1,55 +1,13 @@
--- The paper's marked cases, as one table. Book W is given by its bytes, the other books record by record.
+-- The paper's marked cases, as one table. Book W is given by its bytes (book/specs/Tables.antt), the other books record by record.
 use mathlib.Core.List.{List, [], _∷_, _++_}
 use Prim.Native.Nat.{ℕ}
 use lib.IntN.{pos}
-use Rattle.book.specs.Records.{CellRecord, RegionRecord, RightRecord, NodeRecord, ProgramRecord, Book}
+use Rattle.book.specs.Records.{RightRecord, NodeRecord, ProgramRecord, Book}
 use Rattle.book.specs.Encode.{encode}
-use Rattle.monitor.specs.Tables.{cell, owner-region, may-read, constant, variable, plus, sum, skip, assign, both, if, out, raise, program, Row, called, Shows, run-list, shows, told}
+use Rattle.book.specs.Tables.{w-file, w-cells, w-regions, w-rights, w-nodes, constants, may-read, constant, variable, plus, sum, skip, assign, both, if, out, raise, program}
+use Rattle.monitor.specs.Tables.{Row, called, Shows, run-list, shows, told}
 
--- ---- Book W
-
-unfoldable pub w-file : List ℕ
-w-file =
-    -- cells (0,1,0) = 250 and (0,2,0) = 900
-    0 ∷ 1 ∷ 0 ∷ 0 ∷ 250 ∷ 0 ∷ 0 ∷ 0 ∷ 0 ∷ 2 ∷ 0 ∷ 0 ∷ 132 ∷ 3 ∷ 0 ∷ 0
-    -- regions: table 0 owner 1, table 0 owner 2, all lines
-    ∷ 0 ∷ 1 ∷ 1 ∷ 0 ∷ 7 ∷ 0 ∷ 0 ∷ 0 ∷ 0 ∷ 2 ∷ 2 ∷ 0 ∷ 7 ∷ 0 ∷ 0 ∷ 0
-    -- rights: read for users 1 and 2
-    ∷ 1 ∷ 1 ∷ 0 ∷ 0 ∷ 1 ∷ 2 ∷ 1 ∷ 0
-    -- nodes 0 to 3: constants 0, 1, 2, 7
-    ∷ 1 ∷ 0 ∷ 0 ∷ 0 ∷ 0 ∷ 0 ∷ 0 ∷ 0 ∷ 0 ∷ 0 ∷ 0 ∷ 0 ∷ 0 ∷ 0 ∷ 0 ∷ 0
-    ∷ 1 ∷ 0 ∷ 0 ∷ 0 ∷ 0 ∷ 0 ∷ 0 ∷ 0 ∷ 0 ∷ 0 ∷ 1 ∷ 0 ∷ 0 ∷ 0 ∷ 0 ∷ 0
-    ∷ 1 ∷ 0 ∷ 0 ∷ 0 ∷ 0 ∷ 0 ∷ 0 ∷ 0 ∷ 0 ∷ 0 ∷ 2 ∷ 0 ∷ 0 ∷ 0 ∷ 0 ∷ 0
-    ∷ 1 ∷ 0 ∷ 0 ∷ 0 ∷ 0 ∷ 0 ∷ 0 ∷ 0 ∷ 0 ∷ 0 ∷ 7 ∷ 0 ∷ 0 ∷ 0 ∷ 0 ∷ 0
-    -- 4 sums owners 1 to 1, 5 sums owners 1 to 2
-    ∷ 9 ∷ 0 ∷ 1 ∷ 0 ∷ 1 ∷ 0 ∷ 0 ∷ 0 ∷ 3 ∷ 0 ∷ 0 ∷ 0 ∷ 0 ∷ 0 ∷ 0 ∷ 0
-    ∷ 9 ∷ 0 ∷ 1 ∷ 0 ∷ 2 ∷ 0 ∷ 0 ∷ 0 ∷ 3 ∷ 0 ∷ 0 ∷ 0 ∷ 0 ∷ 0 ∷ 0 ∷ 0
-    -- 6 and 7 out those to user 1, 8 is 6 then 7
-    ∷ 23 ∷ 1 ∷ 4 ∷ 0 ∷ 0 ∷ 0 ∷ 0 ∷ 0 ∷ 0 ∷ 0 ∷ 0 ∷ 0 ∷ 0 ∷ 0 ∷ 0 ∷ 0
-    ∷ 23 ∷ 1 ∷ 5 ∷ 0 ∷ 0 ∷ 0 ∷ 0 ∷ 0 ∷ 0 ∷ 0 ∷ 0 ∷ 0 ∷ 0 ∷ 0 ∷ 0 ∷ 0
-    ∷ 18 ∷ 0 ∷ 6 ∷ 0 ∷ 7 ∷ 0 ∷ 0 ∷ 0 ∷ 0 ∷ 0 ∷ 0 ∷ 0 ∷ 0 ∷ 0 ∷ 0 ∷ 0
-    -- program: user 0, root 8
-    ∷ 0 ∷ 0 ∷ 8 ∷ 0
-    -- "BKWS", version 1; distances 224, 208, 192, 184, 40, 36 with counts 2, 2, 2, 9, 1, 0; 224 bytes
-    ∷ 66 ∷ 75 ∷ 87 ∷ 83 ∷ 1 ∷ 0 ∷ 0 ∷ 0
-    ∷ 224 ∷ 0 ∷ 2 ∷ 0 ∷ 208 ∷ 0 ∷ 2 ∷ 0 ∷ 192 ∷ 0 ∷ 2 ∷ 0 ∷ 184 ∷ 0 ∷ 9 ∷ 0 ∷ 40 ∷ 0 ∷ 1 ∷ 0 ∷ 36 ∷ 0 ∷ 0 ∷ 0
-    ∷ 224 ∷ 0 ∷ 0 ∷ 0 ∷ []
-
--- the same book record by record, for the books that change a part of it
-abbrev pub w-cells : List CellRecord
-w-cells = cell 0 1 0 (pos 250) ∷ cell 0 2 0 (pos 900) ∷ []
-
-abbrev pub w-regions : List RegionRecord
-w-regions = owner-region 0 1 ∷ owner-region 0 2 ∷ []
-
-abbrev pub w-rights : List RightRecord
-w-rights = may-read 1 0 ∷ may-read 2 1 ∷ []
-
-abbrev pub constants : List NodeRecord
-constants = constant (pos 0) ∷ constant (pos 1) ∷ constant (pos 2) ∷ constant (pos 7) ∷ []
-
-abbrev pub w-nodes : List NodeRecord
-w-nodes = sum 0 1 1 0 3 ∷ sum 0 1 2 0 3 ∷ out 4 1 ∷ out 5 1 ∷ both 6 7 ∷ []
+-- ---- books like W
 
 -- W with other rights, other nodes from 4 on and other programs, and the bytes of that book
 abbrev pub w-with : List RightRecord → List NodeRecord → List ProgramRecord → Book

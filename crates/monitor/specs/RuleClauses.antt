@@ -6,11 +6,11 @@ use Prim.Native.Nat.{ℕ, _+_, _%_, _^_}
 use lib.Dec.{eqb}
 use lib.IntN.{ℤ, pos, negsuc}
 use Rattle.book.specs.Records.{NodeRecord}
+use Rattle.book.specs.Tables.{trigger}
 use Rattle.monitor.specs.Labelled.{Lab, lit}
 use Rattle.monitor.specs.Run.{Cell, held, absent, State, said, changed, Out, done, M}
 use Rattle.monitor.specs.Rules
 use Rattle.monitor.specs.Syntax as syntax
-use Rattle.monitor.specs.Tables.{trigger}
 use Rattle.monitor.specs.Samples.{went, halted, ending, final, counts, labelled, eight, key-of, sample-cells, sample, having, small, giving, running, here, office}
 
 -- ---- values for the clauses

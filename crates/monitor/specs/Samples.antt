@@ -8,10 +8,10 @@ use lib.Dec.{eqb}
 use lib.IntN.{ℤ, pos}
 use lib.ListN.{getD}
 use Rattle.book.specs.Records.{Book}
+use Rattle.book.specs.Tables.{cell, owner-region, table-region, public, may-read, may-write, constant, sum, skip, program, trigger}
 use Rattle.monitor.specs.Labelled.{Label, Lab}
 use Rattle.monitor.specs.Run.{Cell, held, absent, State, Rec, said, changed, Out, done, stop, M, spend}
 use Rattle.monitor.specs.Rules.{Key, Env}
-use Rattle.monitor.specs.Tables.{cell, owner-region, table-region, public, may-read, may-write, constant, sum, skip, program, trigger}
 
 -- ---- how a run ended
 

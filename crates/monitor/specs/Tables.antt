@@ -1,118 +1,17 @@
--- Tables: books written record by record, and rows that say what a call on a file, or the run of a book, gives.
+-- Tables: rows that say what a call on a file, or the run of a book, gives.
 use mathlib.Core.Path.{_≡_}
 use mathlib.Core.List.{List, [], _∷_, map}
 use mathlib.Core.Bool.{Bool, true}
 use Prim.Native.Nat.{ℕ, _/_}
-use lib.IntN.{ℤ, pos}
+use lib.IntN.{ℤ}
 use lib.ListN.{length, replicate}
-use Rattle.book.specs.Records.{CellRecord, RegionRecord, RightRecord, NodeRecord, ProgramRecord, TriggerRecord, Book}
+use Rattle.book.specs.Records.{Book}
 use Rattle.book.specs.Refusals.{book-verdict}
 use Rattle.book.specs.declared.Verdict.{Verdict}
 use Rattle.book.specs.declared.Verdict.the-variants as verdicts
 use Rattle.monitor.specs.Call.{Memory, Result, values, run-book, result-of, call, trace-records}
 use Rattle.monitor.specs.declared.Answer.the-variants.{Refused}
 use Rattle.monitor.specs.declared.Values.{Values}
-
--- ---- records, their zeros left out
-
-abbrev pub cell : ℕ → ℕ → ℕ → ℤ → CellRecord
-cell table owner line amount = record { table = table; owner = owner; line = line; zero = 0; amount = amount }
-
--- a whole table, and all lines of one owner
-abbrev pub table-region : ℕ → RegionRecord
-table-region table = record { table = table; owner-first = 0; owner-last = 7; line-first = 0; line-last = 7; zeros = 0 }
-
-abbrev pub owner-region : ℕ → ℕ → RegionRecord
-owner-region table owner = record { table = table; owner-first = owner; owner-last = owner; line-first = 0; line-last = 7; zeros = 0 }
-
-abbrev pub public : ℕ → RightRecord
-public region = record { kind = 0; user = 0; region = region; zero = 0 }
-
-abbrev pub may-read : ℕ → ℕ → RightRecord
-may-read user region = record { kind = 1; user = user; region = region; zero = 0 }
-
-abbrev pub may-write : ℕ → ℕ → RightRecord
-may-write user region = record { kind = 2; user = user; region = region; zero = 0 }
-
--- a node by its kind and the fields p, a, b, c, d
-abbrev pub node : ℕ → ℕ → ℕ → ℕ → ℕ → ℕ → NodeRecord
-node kind p a b c d = record { kind = kind; p = p; a = a; b = b; c = c; d = d; k = pos 0; zeros = 0 }
-
-abbrev pub constant : ℤ → NodeRecord
-constant k = record { kind = 1; p = 0; a = 0; b = 0; c = 0; d = 0; k = k; zeros = 0 }
-
-abbrev pub variable : ℕ → NodeRecord
-variable p = node 2 p 0 0 0 0
-
-abbrev pub plus : ℕ → ℕ → NodeRecord
-plus a b = node 3 0 a b 0 0
-
-abbrev pub minus : ℕ → ℕ → NodeRecord
-minus a b = node 4 0 a b 0 0
-
-abbrev pub equals : ℕ → ℕ → NodeRecord
-equals a b = node 5 0 a b 0 0
-
-abbrev pub less : ℕ → ℕ → NodeRecord
-less a b = node 6 0 a b 0 0
-
--- over a table, owners a to b, lines c to d
-abbrev pub count : ℕ → ℕ → ℕ → ℕ → ℕ → NodeRecord
-count table a b c d = node 8 table a b c d
-
-abbrev pub sum : ℕ → ℕ → ℕ → ℕ → ℕ → NodeRecord
-sum table a b c d = node 9 table a b c d
-
-abbrev pub smallest : ℕ → ℕ → ℕ → ℕ → ℕ → NodeRecord
-smallest table a b c d = node 10 table a b c d
-
-abbrev pub largest : ℕ → ℕ → ℕ → ℕ → ℕ → NodeRecord
-largest table a b c d = node 11 table a b c d
-
-abbrev pub skip : NodeRecord
-skip = node 16 0 0 0 0 0
-
-abbrev pub assign : ℕ → ℕ → NodeRecord
-assign variable a = node 17 variable a 0 0 0
-
-abbrev pub both : ℕ → ℕ → NodeRecord
-both a b = node 18 0 a b 0 0
-
-abbrev pub if : ℕ → ℕ → ℕ → NodeRecord
-if a b c = node 19 0 a b c 0
-
-abbrev pub while : ℕ → ℕ → NodeRecord
-while a b = node 20 0 a b 0 0
-
-abbrev pub put : ℕ → ℕ → ℕ → ℕ → NodeRecord
-put table a b c = node 21 table a b c 0
-
-abbrev pub clear : ℕ → ℕ → ℕ → NodeRecord
-clear table a b = node 22 table a b 0 0
-
-abbrev pub out : ℕ → ℕ → NodeRecord
-out a user = node 23 user a 0 0 0
-
-abbrev pub grant-read : ℕ → ℕ → NodeRecord
-grant-read region user = node 24 user region 1 0 0
-
-abbrev pub grant-write : ℕ → ℕ → NodeRecord
-grant-write region user = node 24 user region 2 0 0
-
-abbrev pub revoke-read : ℕ → ℕ → NodeRecord
-revoke-read region user = node 25 user region 1 0 0
-
-abbrev pub revoke-write : ℕ → ℕ → NodeRecord
-revoke-write region user = node 25 user region 2 0 0
-
-abbrev pub raise : ℕ → ℕ → NodeRecord
-raise variable region = node 26 variable region 0 0 0
-
-abbrev pub program : ℕ → ℕ → ProgramRecord
-program user root = record { user = user; zero = 0; root = root }
-
-abbrev pub trigger : ℕ → ℕ → ℕ → ℕ → TriggerRecord
-trigger region event user body = record { region = region; event = event; user = user; zero = 0; body = body; zeros = 0 }
 
 -- ---- rows
 
