@@ -8,6 +8,7 @@ mod lent;
 mod limits;
 mod office;
 mod outcome;
+mod rights;
 mod sample;
 mod scripts;
 mod stops;
@@ -81,6 +82,7 @@ pub fn all() -> Vec<Case> {
         stops::cases(),
         sweeps::cases(),
         firing::cases(),
+        rights::cases(),
         sample::cases(),
         deep::cases(),
     ]
