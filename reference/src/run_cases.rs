@@ -1,9 +1,11 @@
 //! Cases for runners of books, and what each comes to, so that another
 //! implementation can be compared.
 
+mod contexts;
 mod deep;
 mod files;
 mod firing;
+mod labels;
 mod lent;
 mod limits;
 mod office;
@@ -79,6 +81,8 @@ pub fn all() -> Vec<Case> {
         files::cases(),
         limits::cases(),
         values::cases(),
+        labels::cases(),
+        contexts::cases(),
         stops::cases(),
         sweeps::cases(),
         firing::cases(),
