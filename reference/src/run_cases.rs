@@ -14,8 +14,10 @@ mod rights;
 mod sample;
 mod scripts;
 mod stops;
+mod succession;
 mod sweeps;
 mod values;
+mod views;
 
 pub use outcome::Outcome;
 
@@ -86,7 +88,9 @@ pub fn all() -> Vec<Case> {
         stops::cases(),
         sweeps::cases(),
         firing::cases(),
+        views::cases(),
         rights::cases(),
+        succession::cases(),
         sample::cases(),
         deep::cases(),
     ]

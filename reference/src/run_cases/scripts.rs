@@ -197,7 +197,7 @@ fn public_stays() -> Builder {
 }
 
 /// Copies a trigger's variables 0 to 3 and a constant to cells of table 2.
-fn show_variables(b: &mut Builder) -> u16 {
+pub(super) fn show_variables(b: &mut Builder) -> u16 {
     let mut body = set(b, 2, [0, 4], 50);
     for variable in 0..4 {
         let value = b.variable(variable);
@@ -208,7 +208,7 @@ fn show_variables(b: &mut Builder) -> u16 {
 }
 
 /// Cells of tables 1 and 2 whose labels hold those of A and B.
-fn ready(b: &mut Builder, keys: &[(u8, [i32; 2])]) -> u16 {
+pub(super) fn ready(b: &mut Builder, keys: &[(u8, [i32; 2])]) -> u16 {
     let [first, second] = [A, B].map(|line| held(b, line));
     let both = b.operator(kind::ADD, first, second);
     let puts: Vec<u16> = keys
@@ -218,7 +218,9 @@ fn ready(b: &mut Builder, keys: &[(u8, [i32; 2])]) -> u16 {
     block(b, &puts)
 }
 
-const SHOWN: [(u8, [i32; 2]); 6] = [
+/// Cells to get ready for a put or clear at owner 2, line 5, whose trigger shows
+/// its variables.
+pub(super) const SHOWN: [(u8, [i32; 2]); 6] = [
     (1, [2, 5]),
     (2, [0, 0]),
     (2, [0, 1]),
