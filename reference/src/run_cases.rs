@@ -5,6 +5,7 @@ mod contexts;
 mod deep;
 mod files;
 mod firing;
+mod full_traces;
 mod labels;
 mod lent;
 mod limits;
@@ -82,6 +83,7 @@ pub fn all() -> Vec<Case> {
         lent::cases(),
         files::cases(),
         limits::cases(),
+        full_traces::cases(),
         values::cases(),
         labels::cases(),
         contexts::cases(),

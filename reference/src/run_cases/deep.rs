@@ -13,7 +13,7 @@ pub(super) fn cases() -> Vec<Case> {
         files.push(nested(6, [7, -9], length, triggers).encode());
     }
     files.extend([10_000, 200_000].map(count_down));
-    files.push(endless());
+    files.extend(BODIES.map(endless));
     files
         .into_iter()
         .map(|file| Case::ample(file).with_budget(1_000_000))
@@ -86,9 +86,17 @@ fn count_down(from: i32) -> Vec<u8> {
     b.book.encode()
 }
 
-fn endless() -> Vec<u8> {
+/// Commands that can be run again for ever.
+const BODIES: [fn(&mut Builder) -> u16; 3] = [
+    |_| SKIP,
+    |b| put(b, 2, [0, 0], ONE),
+    |b| b.choose(ZERO, SKIP, SKIP),
+];
+
+fn endless(body: fn(&mut Builder) -> u16) -> Vec<u8> {
     let mut b = start();
-    let root = b.repeat(ONE, SKIP);
+    let body = body(&mut b);
+    let root = b.repeat(ONE, body);
     b.program(0, root);
     b.book.encode()
 }

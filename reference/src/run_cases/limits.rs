@@ -7,6 +7,7 @@ use crate::builder::Builder;
 
 pub(super) fn cases() -> Vec<Case> {
     let mut cases = budgets();
+    cases.extend(without_programs());
     cases.extend(traces());
     cases.extend(books());
     cases
@@ -16,6 +17,13 @@ pub(super) fn cases() -> Vec<Case> {
 fn budgets() -> Vec<Case> {
     [999_998, 999_999, 1_000_000, 1_000_001]
         .map(|budget| Case::ample(million().encode()).with_budget(budget))
+        .to_vec()
+}
+
+/// The shortest book, which costs nothing.
+fn without_programs() -> Vec<Case> {
+    [0, 1, 999_999, 1_000_000, 1_000_001]
+        .map(|budget| Case::ample(Book::default().encode()).with_budget(budget))
         .to_vec()
 }
 

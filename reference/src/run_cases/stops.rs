@@ -263,6 +263,16 @@ fn variables() -> Vec<Fault> {
             let assign = assign(b, 15, 1);
             b.repeat(secret, assign)
         }),
+        fault(25, |b| {
+            let open = amount(b, 7, 0, 0);
+            let raise = b.raise(4, OPEN);
+            when(b, open, raise)
+        }),
+        fault(25, |b| {
+            let secret = held(b, B);
+            let assign = b.assign(4, secret);
+            when(b, secret, assign)
+        }),
         fault(25, forgotten_label),
     ]
 }
@@ -311,7 +321,20 @@ fn cells() -> Vec<Fault> {
             let fault = when(b, third, inner);
             block(b, &[first, copy, last, fault])
         }),
+        fault(26, relabelled_cell),
     ]
+}
+
+/// A cell whose new label no longer has its own place may not be written in a
+/// context that has it.
+fn relabelled_cell(b: &mut Builder) -> u16 {
+    let secret = held(b, A);
+    let keep = b.assign(4, secret);
+    let open = set(b, 0, [0, A.into()], 5);
+    let kept = b.variable(4);
+    let again = clear(b, 0, [0, A.into()]);
+    let last = when(b, kept, again);
+    block(b, &[keep, open, last])
 }
 
 /// 27, before 30.

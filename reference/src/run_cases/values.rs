@@ -83,21 +83,37 @@ fn scattered() -> Builder {
     b
 }
 
-/// All four queries of a line whose exact sum is at an end of 32 bits or past
-/// it, also where only a part of the sum is.
+/// All four queries of a line of amounts: of one sign, and with an exact sum at
+/// an end of 32 bits or past it, also where only a part of the sum is.
 fn sums() -> Vec<Vec<u8>> {
     let (least, most) = (i32::MIN, i32::MAX);
-    let lines: [&[i32]; 10] = [
+    let lines: [&[i32]; 26] = [
+        &[5],
+        &[-5],
+        &[4, 8, 6],
+        &[-4, -8, -6],
+        &[-1; 8],
+        &[-70_000, -3, -3],
         &[most, 0],
         &[most, 1],
         &[1, most],
         &[least, 0],
         &[least, -1],
+        &[-1, least],
         &[most, most, least, least],
         &[least, least, most, most, 1],
         &[most, 1, -1],
         &[least, -1, 1],
+        &[6, most, -7],
+        &[-6, least, 7],
+        &[2, 3, most, -5],
+        &[-2, -3, least, 5],
+        &[most, 70_000, -70_000],
+        &[least, -70_000, 70_000],
+        &[most, most, most, least, least],
+        &[least, least, least, most, most, 5],
         &[most; 8],
+        &[least; 8],
     ];
     lines.map(sum_of).to_vec()
 }
