@@ -1,5 +1,5 @@
-//! Full sections: a bad record at the first, the middle and the last index, and
-//! the names of the last record and of one past it.
+//! Full sections: a bad record at the first, the last and two indexes between,
+//! and the names of the last record and of one past it.
 
 use super::base::{reserved, resized, small, with_byte};
 use crate::book::Book;
@@ -10,7 +10,7 @@ pub(super) fn files() -> Vec<Vec<u8>> {
     for (section, (most, _)) in SECTIONS.into_iter().enumerate() {
         let book = resized(small(), section, most);
         let file = book.encode();
-        for index in [0, most / 2, most - 1] {
+        for index in [0, most / 2, 3 * most / 4, most - 1] {
             files.push(with_byte(&file, reserved(&book, section, index), 1));
         }
     }

@@ -54,7 +54,7 @@ fn length_fields(whole: &[u8]) -> Vec<Vec<u8>> {
     let mut files = Vec::new();
     for at in whole.len() - 4..whole.len() {
         let (up, down) = (whole[at].wrapping_add(1), whole[at].wrapping_sub(1));
-        files.extend(with_bytes(whole, at, &[0, 1, 255, up, down]));
+        files.extend(with_bytes(whole, at, &[0, 1, 16, 128, 255, up, down]));
     }
     files
 }

@@ -8,6 +8,7 @@ pub(super) fn files() -> Vec<Vec<u8>> {
     let kinds = (1..=6).chain(8..=11).chain(16..=26);
     let mut files: Vec<Vec<u8>> = kinds.flat_map(of_kind).collect();
     files.extend((0..=255).map(alone));
+    files.extend([0, 7, 12, 15, 27, 255].into_iter().flat_map(of_no_kind));
     files.extend(region_limits());
     files
 }
@@ -109,6 +110,23 @@ fn alone(kind: u8) -> Vec<u8> {
     let mut book = Book::default();
     book.nodes.push(good(kind, 0, 0));
     book.encode()
+}
+
+/// A bad kind after lower nodes; and as a program's root and a trigger's body.
+fn of_no_kind(kind: u8) -> Vec<Vec<u8>> {
+    let bad = node(kind, 0, [0; 4]);
+    let mut program = Builder::new();
+    let root = program.node(bad);
+    let mut trigger = program.clone();
+    program.program(0, root);
+    let region = trigger.region(0, 0..=0, 0..=0);
+    trigger.put_trigger(region, 0, root);
+    vec![
+        book_of(bad, false),
+        book_of(bad, true),
+        program.book.encode(),
+        trigger.book.encode(),
+    ]
 }
 
 /// The last of 64 regions and one past it.

@@ -10,6 +10,10 @@ pub(super) fn files() -> Vec<Vec<u8>> {
         for count in [1, 2, most, most + 1] {
             files.push(resized(small(), section, count).encode());
         }
+        for others in [0, 0b00_1011, 0b11_0110] {
+            let book = only(others | 1 << section);
+            files.push(resized(book, section, most + 1).encode());
+        }
     }
     files.extend((0..64).map(|kept| only(kept).encode()));
     let book = small();
