@@ -78,7 +78,7 @@ const HISTORIES: [&[Change]; 11] = [
     &[Grant(ACROSS)],
     &[Revoke(ACROSS)],
     &[Revoke(YARD)],
-    &[Grant(YARD), Revoke(HOUSE)],
+    &[Grant(YARD), Revoke(GARDEN)],
     &[Grant(YARD), Revoke(ACROSS)],
     &[Grant(ACROSS), Revoke(HOUSE)],
     &[Grant(ACROSS), Revoke(GARDEN)],
