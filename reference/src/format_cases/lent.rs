@@ -43,13 +43,14 @@ fn neighbours() -> Vec<Lent> {
     all
 }
 
-/// One length far off, or at the end of what may be lent in a case.
+/// One length far off, or at the end of what may be lent in a case; and an output
+/// one byte short.
 fn far() -> Vec<Lent> {
     let right = Lent::ACCEPTED;
     let mut all = vec![right];
     all.extend([0, 256, 520].map(|amounts| Lent { amounts, ..right }));
     all.extend([0, 4, 16].map(|presence| Lent { presence, ..right }));
     all.extend([0, 512, 4_104].map(|labels| Lent { labels, ..right }));
-    all.extend([0, 236, 60_008].map(|output| Lent { output, ..right }));
+    all.extend([0, 236, 59_999, 60_008].map(|output| Lent { output, ..right }));
     all
 }
