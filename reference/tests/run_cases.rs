@@ -74,8 +74,8 @@ fn cases_are_the_same_at_every_call() {
 #[test]
 fn cases_are_many_and_small() {
     let cases = all();
-    assert!(cases.len() >= 5_000, "{} cases", cases.len());
-    assert!(stream(&cases).len() <= 3_000_000);
+    assert!(cases.len() >= 6_500, "{} cases", cases.len());
+    assert!(stream(&cases).len() <= 3_300_000);
     for Case { file, lent, .. } in cases {
         assert!(file.len() <= 60_016);
         assert!(lent.amounts <= 520 && lent.presence <= 16);
@@ -100,6 +100,10 @@ struct Met {
     /// Budgets and lengths of traces of accepted cases.
     budgets: BTreeSet<u32>,
     traces: BTreeSet<u32>,
+    /// Finished runs that filled a trace of the length, and that used up the
+    /// budget.
+    filled: BTreeMap<u32, usize>,
+    used_up: BTreeMap<u32, usize>,
     cost: u32,
 }
 
@@ -111,13 +115,28 @@ impl Met {
                 self.places.entry(number).or_default().insert(index);
             }
             Answer::Ended {
-                number, node, cost, ..
+                number,
+                node,
+                cost,
+                bytes,
             } => {
                 *self.answers.entry(number).or_default() += 1;
                 self.places.entry(number).or_default().insert(node);
                 self.cost += cost;
                 self.accepted(case, number, node);
+                if number == 0 {
+                    self.finished(case, cost, bytes);
+                }
             }
+        }
+    }
+
+    fn finished(&mut self, case: &Case, cost: u32, bytes: u32) {
+        if bytes == case.lent.trace {
+            *self.filled.entry(bytes).or_default() += 1;
+        }
+        if cost == case.budget {
+            *self.used_up.entry(cost).or_default() += 1;
         }
     }
 
@@ -200,7 +219,7 @@ fn demand_books(met: &Met) {
         let books = met.kinds.get(&kind);
         assert!(books >= Some(&100), "kind {kind}: {books:?}");
     }
-    for (count, books) in [(0, 100), (1, 100), (2, 100), (4, 100), (8, 5)] {
+    for (count, books) in [(0, 100), (1, 100), (2, 100), (4, 100), (8, 10)] {
         let programs = met.programs.get(&count);
         assert!(programs >= Some(&books), "{count} programs: {met:?}");
     }
@@ -217,6 +236,12 @@ fn demand_lengths(met: &Met) {
     for budget in (0..=60).chain([999_999, 1_000_000]) {
         assert!(met.budgets.contains(&budget), "budget {budget}");
     }
+    for (length, runs) in [(8, 1), (16, 1), (24, 1), (32, 1), (40, 1), (65_536, 5)] {
+        let filled = met.filled.get(&length);
+        assert!(filled >= Some(&runs), "trace {length}: {filled:?}");
+    }
+    assert!(met.used_up.len() >= 15, "{:?}", met.used_up);
+    assert!(met.used_up.contains_key(&1_000_000), "{:?}", met.used_up);
     // So that a slower runner can run all cases in a few seconds.
     assert!(met.cost <= 10_000_000, "cost {}", met.cost);
 }
