@@ -32,7 +32,7 @@ use Rattle.claims.proofs.TwoRuns.{Agree, two-runs}
 abbrev ran : List ℕ → ℕ → Memory → Out (Unit {0})
 ran file budget m = run-book true (decode file) budget (length (m .trace) / 8)
 
-accepted-is : (file : List ℕ) (budget : ℕ) (m : Memory) → accepted (call true file budget m .answer) ≡ true
+pub accepted-is : (file : List ℕ) (budget : ℕ) (m : Memory) → accepted (call true file budget m .answer) ≡ true
     → call true file budget m ≡ result-of budget m (ran file budget m)
 unfolding call answered accepted
 accepted-is file budget m h = go (call-verdict file budget m) h
@@ -48,7 +48,7 @@ finished-is budget m (done t a s) h = refl
 finished-is budget m (stop t h s) e = e
 
 -- the cells that a call leaves are those at its run's end
-left-cells : (budget : ℕ) (m : Memory) (o : Out (Unit {0})) → Eight (end o .cells) 512
+pub left-cells : (budget : ℕ) (m : Memory) (o : Out (Unit {0})) → Eight (end o .cells) 512
     → (q : ℕ) → q < 512 → cells-in (result-of budget m o .memory) q ≡ end o .cells q
 unfolding result-of memory-after end
 left-cells budget m (done t a s) h q l = cells-kept (s .cells) h q l

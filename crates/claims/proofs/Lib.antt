@@ -11,3 +11,6 @@ pub mod Sized
 pub mod Traces
 pub mod Reach
 pub mod Demand3
+pub mod Calls
+pub mod Inside
+pub mod Witnesses

@@ -1,2 +1,3 @@
 pub mod TwoBooks
 pub mod Claims
+pub mod Witnesses
