@@ -1,6 +1,6 @@
 -- The witnesses hold, by computation. Assumes nothing.
-use mathlib.Core.Path.{_≡_, refl, sym, ap, _∙_}
-use mathlib.Core.List.{List, [], _∷_, _++_, map}
+use mathlib.Core.Path.{_≡_, refl, sym, ap}
+use mathlib.Core.List.{List, [], _∷_, map}
 use mathlib.Core.Bool.{Bool, true, false, false≢true}
 use mathlib.Core.Logic.{inl, inr, ⊎-elim}
 use Prim.Native.Nat.{ℕ, _<_}
@@ -10,18 +10,17 @@ use lib.IntN.{ℤ}
 use lib.ListN.{length, getD}
 use lib.Signed.{mag}
 use borrow.Author.Tests.{eqb-false}
-use Rattle.places.specs.Sets.{within}
 use Rattle.book.specs.Bytes.{byte}
 use Rattle.book.specs.Records.{SameScripts}
 use Rattle.book.specs.Layout.{decode}
 use Rattle.book.specs.Refusals.{no-region, no-right, no-program}
 use Rattle.monitor.specs.Labelled.{Label, Lab}
-use Rattle.monitor.specs.Run.{Cell, held, absent}
+use Rattle.monitor.specs.Run.{Cell}
 use Rattle.monitor.specs.Call.{Memory, Result, call}
 use Rattle.monitor.specs.Tables.{Shown, Row, told, lent, shown}
 use Rattle.monitor.specs.Marked.{w-file}
-use Rattle.claims.specs.TwoBooks.{Group, accepted, group-trace, reach, InsideEither, SameInside}
-use Rattle.claims.specs.Witnesses.{members, Reaching, reached, reaches, Reaches, Pair, result-of-row, Meets, both-finish, first-stops, second-stops, both-stop, Met, Pairs, owner-1, Excluded, Exclusions, only, inside-8, outside-16, Sides, join, memory-of, over, broken, learns-nothing, Leaks, NoLeaks, Terms}
+use Rattle.claims.specs.TwoBooks.{Group, accepted, group-trace, reach, InsideEither, SameInside, cells-in}
+use Rattle.claims.specs.Witnesses.{members, Reaching, reached, reaches, Reaches, Pair, result-of-row, Meets, both-finish, first-stops, second-stops, both-stop, Pairs, owner-1, Exclusions, Sides, join, memory-of, over-at, over, broken, Leaks, NoLeaks, Terms}
 use Rattle.claims.proofs.Calls.{call-quick, call-is, left-quick, left-is}
 use Rattle.claims.proofs.Inside.{below, same-amount, alike, differ-outside, same-start, only-same, only-outside, only-beyond, from-memory, to-memory}
 
@@ -154,46 +153,30 @@ sides = record {
 byte-of : ℕ → ℕ → List (List ℕ) → ℕ
 byte-of i k t = byte (getD t i []) k
 
--- two runs that finish, tell the same and leave these cells at place 8
-module _ (x y : Lab Cell) (h : length (x .lab) ≡ 8) (h' : length (y .lab) ≡ 8) where
-  abbrev first : Result
-  first = over (told 5 ∷ []) x
-
-  abbrev second : Result
-  second = over (told 5 ∷ []) y
-
-  same-told : learns-nothing (1 ∷ []) first second → InsideEither owner-1 x y → x ≡ y
-  unfolding left-quick over
-  same-told l i =
-      only-same 8 x y (omega arith) (from-memory owner-1 (told 5 ∷ []) (told 5 ∷ []) (told 7) (told 7) 8 x y h h' (l .cells refl refl)) i
-
-  told-same : SameInside owner-1 (only 8 x) (only 8 y) → learns-nothing (1 ∷ []) first second
-  unfolding left-quick members join memory-of over
-  told-same d = record {
-    begins = inl (record { rest = []; is = refl });
-    first-whole = λ e. record { rest = []; is = refl };
-    second-whole = λ e. record { rest = []; is = refl };
-    traces = λ e e'. refl;
-    cells = λ e e'. to-memory owner-1 (told 5 ∷ []) (told 5 ∷ []) (told 7) (told 7) 8 x y h h' d;
-  }
+-- what two runs that tell the same leave at a place, if it is the same inside
+same-left : (q : ℕ) (x y : Lab Cell) → q < 512 → length (x .lab) ≡ 8 → length (y .lab) ≡ 8
+    → SameInside owner-1 (cells-in (over-at q (told 5 ∷ []) x .memory)) (cells-in (over-at q (told 5 ∷ []) y .memory)) → InsideEither owner-1 x y → x ≡ y
+unfolding over-at
+same-left q x y l h h' d i = only-same q x y l (from-memory owner-1 (told 5 ∷ []) (told 5 ∷ []) (told 7) (told 7) q x y h h' d) i
 
 pub leaks : Leaks
-unfolding left-quick members join memory-of over broken byte-of amount-of word-of-label
+unfolding left-quick members join memory-of over-at over broken byte-of amount-of word-of-label
 leaks = record {
   amounts = λ l. unlike (byte-of 0 4) (l .first-whole refl .is) refl;
   less = λ l. unlike (byte-of 0 0) (l .first-whole refl .is) refl;
   less-first = λ l. unlike (byte-of 0 0) (l .first-whole refl .is) refl;
   less-second = λ l. unlike (byte-of 0 0) (l .second-whole refl .is) refl;
   neither = λ l. ⊎-elim (λ b. unlike (byte-of 1 4) (b .is) refl) (λ b. unlike (byte-of 1 4) (b .is) refl) (l .begins);
-  cell-amount = λ l. unlike amount-of (same-told _ _ refl refl l (inl (record { holds = refl }))) refl;
-  cell-presence = λ l. false≢true (sym (ap (λ c. c .val .present) (same-told _ _ refl refl l (inl (record { holds = refl })))));
-  cell-label = λ l. unlike word-of-label (same-told _ _ refl refl l (inl (record { holds = refl }))) refl;
+  cell-amount = λ l. unlike amount-of (same-left 8 _ _ (omega arith) refl refl (l .cells refl refl) (inl (record { holds = refl }))) refl;
+  cell-presence = λ l. false≢true (sym (ap (λ c. c .val .present) (same-left 8 _ _ (omega arith) refl refl (l .cells refl refl) (inl (record { holds = refl })))));
+  cell-label = λ l. unlike word-of-label (same-left 8 _ _ (omega arith) refl refl (l .cells refl refl) (inl (record { holds = refl }))) refl;
+  cell-last = λ l. unlike amount-of (same-left 511 _ _ (omega arith) refl refl (l .cells refl refl) (inl (record { holds = refl }))) refl;
   rights = λ l. unlike (byte-of 0 2) (l .second-whole refl .is) refl;
   right-more = λ l. unlike (byte-of 0 0) (l .second-whole refl .is) refl;
 }
 
 pub no-leaks : NoLeaks
-unfolding left-quick members join memory-of over broken
+unfolding left-quick members join memory-of over-at over broken
 no-leaks = record {
   others = record {
     begins = inl (record { rest = []; is = refl });
@@ -202,7 +185,13 @@ no-leaks = record {
     traces = λ e e'. refl;
     cells = λ e e'. record { same = λ q l i. refl };
   };
-  cell-outside = told-same _ _ refl refl (only-outside 8 _ _ owner-1 refl refl);
+  cell-outside = record {
+    begins = inl (record { rest = []; is = refl });
+    first-whole = λ e. record { rest = []; is = refl };
+    second-whole = λ e. record { rest = []; is = refl };
+    traces = λ e e'. refl;
+    cells = λ e e'. to-memory owner-1 (told 5 ∷ []) (told 5 ∷ []) (told 7) (told 7) 8 _ _ refl refl (only-outside 8 _ _ owner-1 refl refl);
+  };
   cut-short = record {
     begins = inr (record { rest = told 6 ∷ []; is = refl });
     first-whole = λ e. record { rest = told 6 ∷ []; is = refl };

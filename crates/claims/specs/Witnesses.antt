@@ -3,12 +3,12 @@
 -- Answers, costs, traces and places are worked out by hand from the paper. A query with its four bounds costs 8, every other node 1.
 use mathlib.Core.Path.{_≡_}
 use mathlib.Core.List.{List, [], _∷_, _++_, map}
-use mathlib.Core.Bool.{Bool, true, false, _||_}
+use mathlib.Core.Bool.{true, false, _||_}
 use Prim.Native.Nat.{ℕ, _*_}
 use lib.Dec.{eqb}
-use lib.IntN.{ℤ, pos, negsuc}
+use lib.IntN.{ℤ, pos}
 use lib.ListN.{length}
-use Rattle.book.specs.Records.{CellRecord, RegionRecord, RightRecord, NodeRecord, ProgramRecord, TriggerRecord, Book}
+use Rattle.book.specs.Records.{CellRecord, RegionRecord, RightRecord, NodeRecord, ProgramRecord, TriggerRecord}
 use Rattle.book.specs.Encode.{encode}
 use Rattle.monitor.specs.Labelled.{Label, bottom, Lab, lit}
 use Rattle.monitor.specs.Run.{Cell, held, absent, update}
@@ -16,7 +16,6 @@ use Rattle.monitor.specs.Call.{Memory, Result, call, amounts-in, presence-in, l
 use Rattle.monitor.specs.Tables.{cell, owner-region, table-region, public, may-read, constant, sum, skip, assign, both, if, out, grant-read, grant-write, revoke-read, program, trigger, Shown, Row, run-list, shows, told, changed, lent, shown}
 use Rattle.monitor.specs.Marked.{w-file, w-cells, w-regions, w-rights, constants, w-nodes}
 use Rattle.monitor.specs.Samples.{eight}
-use Rattle.monitor.specs.declared.Answer.{Answer}
 use Rattle.monitor.specs.declared.Answer.the-variants.{Refused, Stopped, Finished}
 use Rattle.claims.specs.TwoBooks.{Group, accepted, finished, visible, group-trace, Begins, reach, SameInside, DifferOutside, cells-in}
 use Rattle.claims.specs.Claims.{LearnsNothing}
@@ -318,10 +317,14 @@ unfoldable pub memory-of : List (List ℕ) → List ℕ → (ℕ → Lab Cell) �
 memory-of records later cells =
     record { amounts = amounts-in cells; presence = presence-in cells; labels = labels-in cells 512; trace = join records ++ later }
 
--- a run that finished or stopped, told these records and left this cell at place 8; where it finished, another record stands in the
--- trace behind those that the answer counts
+-- a run that finished, told these records and left this cell at place q; another record stands in the trace behind those that the
+-- answer counts
+unfoldable pub over-at : ℕ → List (List ℕ) → Lab Cell → Result
+over-at q records x = record { answer = Finished 9 (8 * length records); memory = memory-of records (told 7) (only q x) }
+
+-- at place 8; and a run that stopped
 unfoldable pub over : List (List ℕ) → Lab Cell → Result
-over records x = record { answer = Finished 9 (8 * length records); memory = memory-of records (told 7) (only 8 x) }
+over records x = over-at 8 records x
 
 unfoldable pub broken : List (List ℕ) → Lab Cell → Result
 broken records x = record { answer = Stopped 27 4 9 (8 * length records); memory = memory-of records [] (only 8 x) }
@@ -348,6 +351,7 @@ pub record Leaks : Type 0 where
   pub cell-amount : leak (1 ∷ []) (over (told 5 ∷ []) plain) (over (told 5 ∷ []) (inside-8 (held (pos 2))))
   pub cell-presence : leak (1 ∷ []) (over (told 5 ∷ []) (inside-8 (held (pos 0)))) (over (told 5 ∷ []) (inside-8 absent))
   pub cell-label : leak (1 ∷ []) (over (told 5 ∷ []) plain) (over (told 5 ∷ []) (outside-16 (held (pos 1))))
+  pub cell-last : leak (1 ∷ []) (over-at 511 (told 5 ∷ []) (lit (held (pos 1)))) (over-at 511 (told 5 ∷ []) (lit absent))
   -- changes of rights, which a group of nobody sees too
   pub rights : leak [] (over (changed 2 1 0 ∷ []) plain) (over (changed 2 1 1 ∷ []) plain)
   pub right-more : leak [] (over (changed 5 7 1 ∷ []) plain) (over [] plain)
