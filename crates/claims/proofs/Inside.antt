@@ -19,7 +19,7 @@ use Rattle.book.specs.Layout.{decode}
 use Rattle.book.specs.Start.{amount-at}
 use Rattle.monitor.specs.Labelled.{Label, Lab, lit}
 use Rattle.monitor.specs.Run.{Cell, absent, update}
-use Rattle.monitor.specs.Call.{start-cells}
+use Rattle.monitor.specs.Call.{script, start-cells}
 use Rattle.claims.specs.TwoBooks.{InsideEither, SameInside, DifferOutside, cells-in}
 use Rattle.claims.specs.Witnesses.{only, memory-of}
 use Rattle.monitor.proofs.Memory.{Eight, cells-kept}
@@ -92,9 +92,20 @@ starts-alike reach b b' h = record { same = λ q l i. same q l (⊎-elim (inside
         same-amount-is _ _ (tested (has reach q) _ e (below-at _ 512 q h l)) in
         rw (start-is b, start-is b', amounts)
 
-pub differ-outside : (reach : Label) (file file' : List ℕ) → SameScripts (decode file) (decode file')
+same-scripts : {b b' : Book} → script b ≡ script b' → SameScripts b b'
+unfolding script
+same-scripts e =
+    record {
+      regions = ap (λ b. b .regions) e;
+      rights = ap (λ b. b .rights) e;
+      nodes = ap (λ b. b .nodes) e;
+      programs = ap (λ b. b .programs) e;
+      triggers = ap (λ b. b .triggers) e;
+    }
+
+pub differ-outside : (reach : Label) (file file' : List ℕ) → script (decode file) ≡ script (decode file')
     → alike reach (decode file .cells) (decode file' .cells) ≡ true → DifferOutside reach file file'
-differ-outside reach file file' s h = record { scripts = s; cells = starts-alike reach (decode file) (decode file') h }
+differ-outside reach file file' e h = record { scripts = same-scripts e; cells = starts-alike reach (decode file) (decode file') h }
 
 -- a cell whose place is in the reach is the same in both
 pub same-start : {reach : Label} {file file' : List ℕ} → DifferOutside reach file file'

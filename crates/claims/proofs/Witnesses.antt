@@ -11,12 +11,11 @@ use lib.ListN.{length, getD}
 use lib.Signed.{mag}
 use borrow.Author.Tests.{eqb-false}
 use Rattle.book.specs.Bytes.{byte}
-use Rattle.book.specs.Records.{SameScripts}
 use Rattle.book.specs.Layout.{decode}
 use Rattle.book.specs.Refusals.{no-region, no-right, no-program}
 use Rattle.monitor.specs.Labelled.{Label, Lab}
 use Rattle.monitor.specs.Run.{Cell}
-use Rattle.monitor.specs.Call.{Memory, Result, call}
+use Rattle.monitor.specs.Call.{Memory, Result, script, call}
 use Rattle.monitor.specs.Tables.{Shown, Row, told, lent, shown}
 use Rattle.monitor.specs.Marked.{w-file}
 use Rattle.claims.specs.TwoBooks.{Group, accepted, group-trace, reach, InsideEither, SameInside, cells-in}
@@ -72,7 +71,7 @@ left-cell z n row q = left-quick (row .of) (row .budget) (lent z n (row .trace))
 
 -- a pair is met if it is by the calls that compute quickly
 module _ (p : Pair) (z z' : ℤ) (n n' : ℕ) where
-  meets : SameScripts (decode (p .first .of)) (decode (p .second .of))
+  meets : script (decode (p .first .of)) ≡ script (decode (p .second .of))
       → alike (p .reach) (decode (p .first .of) .cells) (decode (p .second .of) .cells) ≡ true
       → calls call-quick p z z' n n' ≡ expected p
       → p .lengths ≡ (length (p .first .of), length (p .second .of))
@@ -103,10 +102,10 @@ pub pairs-met : Pairs
 unfolding left-quick members below same-amount alike outcome expected calls left-cell both-finish first-stops second-stops both-stop
 pairs-met =
     record {
-      finish = λ z z' n n'. meets both-finish z z' n n' (record { regions = refl; rights = refl; nodes = refl; programs = refl; triggers = refl }) refl refl refl (omega arith) refl;
-      one-stops = λ z z' n n'. meets first-stops z z' n n' (record { regions = refl; rights = refl; nodes = refl; programs = refl; triggers = refl }) refl refl refl (omega arith) refl;
-      other-stops = λ z z' n n'. meets second-stops z z' n n' (record { regions = refl; rights = refl; nodes = refl; programs = refl; triggers = refl }) refl refl refl (omega arith) refl;
-      stop = λ z z' n n'. meets both-stop z z' n n' (record { regions = refl; rights = refl; nodes = refl; programs = refl; triggers = refl }) refl refl refl (omega arith) refl;
+      finish = λ z z' n n'. meets both-finish z z' n n' refl refl refl refl (omega arith) refl;
+      one-stops = λ z z' n n'. meets first-stops z z' n n' refl refl refl refl (omega arith) refl;
+      other-stops = λ z z' n n'. meets second-stops z z' n n' refl refl refl refl (omega arith) refl;
+      stop = λ z z' n n'. meets both-stop z z' n n' refl refl refl refl (omega arith) refl;
     }
 
 -- ---- exclusions
