@@ -66,8 +66,11 @@ calls calling p z z' n n' =
     let r' : Result = calling (p .second .of) (p .second .budget) (lent z' n' (p .second .trace)) in
     outcome p r r'
 
+-- the cell that a row's call leaves at a place, worked out once
 left-cell : ℤ → ℕ → Row (List ℕ) → ℕ → Cell
-left-cell z n row q = left-quick (row .of) (row .budget) (lent z n (row .trace)) q .val
+left-cell z n row q =
+    let c : Lab Cell = left-quick (row .of) (row .budget) (lent z n (row .trace)) q in
+    record { present = c .val .present; amount = c .val .amount }
 
 -- a pair is met if it is by the calls that compute quickly
 module _ (p : Pair) (z z' : ℤ) (n n' : ℕ) where
@@ -161,7 +164,7 @@ same-left q x y l h h' d i = only-same q x y l (from-memory owner-1 (told 5 ∷ 
 pub leaks : Leaks
 unfolding left-quick members join memory-of over-at over broken byte-of amount-of word-of-label
 leaks = record {
-  amounts = λ l. unlike (byte-of 0 4) (l .first-whole refl .is) refl;
+  amounts = λ l. ⊎-elim (λ b. unlike (byte-of 0 4) (b .is) refl) (λ b. unlike (byte-of 0 4) (b .is) refl) (l .begins);
   less = λ l. unlike (byte-of 0 0) (l .first-whole refl .is) refl;
   less-first = λ l. unlike (byte-of 0 0) (l .first-whole refl .is) refl;
   less-second = λ l. unlike (byte-of 0 0) (l .second-whole refl .is) refl;
@@ -170,7 +173,7 @@ leaks = record {
   cell-presence = λ l. false≢true (sym (ap (λ c. c .val .present) (same-left 8 _ _ (omega arith) refl refl (l .cells refl refl) (inl (record { holds = refl })))));
   cell-label = λ l. unlike word-of-label (same-left 8 _ _ (omega arith) refl refl (l .cells refl refl) (inl (record { holds = refl }))) refl;
   cell-last = λ l. unlike amount-of (same-left 511 _ _ (omega arith) refl refl (l .cells refl refl) (inl (record { holds = refl }))) refl;
-  rights = λ l. unlike (byte-of 0 2) (l .second-whole refl .is) refl;
+  rights = λ l. ⊎-elim (λ b. unlike (byte-of 0 2) (b .is) refl) (λ b. unlike (byte-of 0 2) (b .is) refl) (l .begins);
   right-more = λ l. unlike (byte-of 0 0) (l .second-whole refl .is) refl;
 }
 

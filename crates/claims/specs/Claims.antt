@@ -29,8 +29,9 @@ pub record LearnsNothing (g : Group) (reach : List ℕ) (first second : Result) 
   pub traces : finished (first .answer) ≡ true → finished (second .answer) ≡ true → group-trace g first ≡ group-trace g second
   pub cells : finished (first .answer) ≡ true → finished (second .answer) ≡ true → SameInside reach (cells-in (first .memory)) (cells-in (second .memory))
 
--- Demand 3: for every group, every two accepted books that differ only outside its reach, any budgets, any trace lengths and any
--- earlier contents of lent memory.
+-- Demand 3 of the rules' calls: for every group, every two accepted books that differ only outside its reach, any budgets, any trace
+-- lengths and any earlier contents of lent memory. The customer's demand 3 is the `Demand3` over what the entry ensures
+-- (crates/entry/specs/Claims.antt); it is proved from this one.
 abbrev pub Demand3 : Type 0
 Demand3 = (g : Group) (file file' : List ℕ) (budget budget' : ℕ) (m m' : Memory) →
     accepted (call true file budget m .answer) ≡ true → accepted (call true file' budget' m' .answer) ≡ true →
