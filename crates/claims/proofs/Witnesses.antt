@@ -66,11 +66,8 @@ calls calling p z z' n n' =
     let r' : Result = calling (p .second .of) (p .second .budget) (lent z' n' (p .second .trace)) in
     outcome p r r'
 
--- the cell that a row's call leaves at a place, worked out once
 left-cell : ℤ → ℕ → Row (List ℕ) → ℕ → Cell
-left-cell z n row q =
-    let c : Lab Cell = left-quick (row .of) (row .budget) (lent z n (row .trace)) q in
-    record { present = c .val .present; amount = c .val .amount }
+left-cell z n row q = left-quick (row .of) (row .budget) (lent z n (row .trace)) q
 
 -- a pair is met if it is by the calls that compute quickly
 module _ (p : Pair) (z z' : ℤ) (n n' : ℕ) where

@@ -53,11 +53,11 @@ reached z n x =
     let r : Result = call true (x .row .of) (x .row .budget) (lent z n (x .row .trace)) in
     (shown r, reach (members (x .group)) (x .row .of) r)
 
--- W with other rights and other nodes, and at most one program
+-- a book with W's regions and no cells, and with these rights, nodes and programs
 abbrev pub granting : List RightRecord → List NodeRecord → List ProgramRecord → List ℕ
 granting rights nodes programs = file-of [] w-regions rights nodes programs []
 
--- the same with no program: a run that is over at once
+-- such a book with no program: its run is over at once
 abbrev pub idle : List RightRecord → List ℕ → Label → Reaching
 idle rights group reach = record { row = run-list (granting rights [] []) (shows 0 0 0 0 []); group = group; reach = reach }
 
@@ -71,8 +71,9 @@ in-secret = constant (pos 0) ∷ sum 0 0 0 0 0 ∷ grant-read 1 1 ∷ if 1 2 2 �
 
 unfoldable pub reaches : List Reaching
 reaches =
-    -- W: of user 1 region 0, of user 2 region 1, of both both; of nobody, and of a user that there is not, the public set, which is empty
+    -- W, of user 1: region 0, and not the region that user 2 may read
     record { row = run-list w-file (shows 27 7 19 8 (told 250 ∷ [])); group = 1 ∷ []; reach = owner-1 }
+    -- W's rights: of user 2 region 1, of both users both; of nobody, and of a user that there is not, the public set, which is empty
     ∷ idle w-rights (2 ∷ []) owner-2
     ∷ idle w-rights (1 ∷ 2 ∷ []) owners-1-2
     ∷ idle w-rights [] bottom
