@@ -10,7 +10,7 @@ use Rattle.book.specs.Layout.{decode}
 use Rattle.book.specs.declared.Verdict.{Verdict}
 use Rattle.book.specs.declared.Verdict.the-variants as verdicts
 use Rattle.monitor.specs.Labelled.{Lab, lit}
-use Rattle.monitor.specs.Run.{Cell, Out, done, stop, sixteen}
+use Rattle.monitor.specs.Run.{Cell, Out, sixteen}
 use Rattle.monitor.specs.Rules.{run}
 use Rattle.monitor.specs.Call.{Memory, Result, script, start-cells, start-rights, start-state, run-book, call-verdict, result-of, answered, call}
 use Rattle.monitor.specs.declared.Answer.the-variants.{Refused}
@@ -42,34 +42,23 @@ call-quick = call-from start-cell
 
 pub call-is : call true ≡ call-quick
 unfolding call answered run-book start-state run-from answered-from call-from call-quick
-call-is = fun-ext λ file. fun-ext λ budget. fun-ext λ m. same file budget m (call-verdict file budget m) ∙ ap (λ cells. call-from cells file budget m) (fun-ext start-is)
+call-is = fun-ext λ file. fun-ext λ budget. fun-ext λ m.
+    same file budget m (call-verdict file budget m) ∙ ap (λ cells. call-from cells file budget m) (fun-ext start-is)
   where
     same : (file : List ℕ) (budget : ℕ) (m : Memory) (v : Verdict) → answered true file budget m v ≡ answered-from start-cells file budget m v
     same file budget m (verdicts.Refused number index) = refl
     same file budget m verdicts.Accepted = refl
 
--- the cell that a run leaves at a place; the run is worked out once for both of its fields
-left-by : Out (Unit {0}) → ℕ → Cell
-left-by (done t a s) q = record { present = s .cells q .val .present; amount = s .cells q .val .amount }
-left-by (stop t h s) q = record { present = s .cells q .val .present; amount = s .cells q .val .amount }
-
-end-left : (o : Out (Unit {0})) (q : ℕ) → end o .cells q .val ≡ left-by o q
-unfolding end left-by
-end-left (done t a s) q = refl
-end-left (stop t h s) q = refl
-
--- the cell that an accepted call leaves at a place
-unfoldable pub left-quick : List ℕ → ℕ → Memory → ℕ → Cell
-unfolding call-quick run-from left-by
-left-quick file budget m q = left-by (run-from start-cell file budget m) q
+-- the cells that an accepted call leaves
+unfoldable pub left-quick : List ℕ → ℕ → Memory → ℕ → Lab Cell
+unfolding call-quick run-from
+left-quick file budget m = end (run-from start-cell file budget m) .cells
 
 pub left-is : (file : List ℕ) (budget : ℕ) (m : Memory) → accepted (call true file budget m .answer) ≡ true
-    → (q : ℕ) → q < 512 → cells-in (call true file budget m .memory) q .val ≡ left-quick file budget m q
+    → (q : ℕ) → q < 512 → cells-in (call true file budget m .memory) q ≡ left-quick file budget m q
 unfolding run-book start-state run-from left-quick
 left-is file budget m a q h =
     let room = length (m .trace) / 8 in
-    let fine = fine-end (fine-run true (decode file) budget room) .cells in
     rw (accepted-is file budget m a)
-    (ap (λ c. c .val) (left-cells budget m (run-book true (decode file) budget room) fine q h)
-    ∙ end-left (run-from start-cells file budget m) q
-    ∙ ap (λ cells. left-by (run-from cells file budget m) q) (fun-ext start-is))
+    (left-cells budget m (run-book true (decode file) budget room) (fine-end (fine-run true (decode file) budget room) .cells) q h
+    ∙ ap (λ cells. end (run-from cells file budget m) .cells q) (fun-ext start-is))

@@ -67,7 +67,7 @@ calls calling p z z' n n' =
     outcome p r r'
 
 left-cell : ℤ → ℕ → Row (List ℕ) → ℕ → Cell
-left-cell z n row q = left-quick (row .of) (row .budget) (lent z n (row .trace)) q
+left-cell z n row q = left-quick (row .of) (row .budget) (lent z n (row .trace)) q .val
 
 -- a pair is met if it is by the calls that compute quickly
 module _ (p : Pair) (z z' : ℤ) (n n' : ℕ) where

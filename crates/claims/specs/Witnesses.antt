@@ -13,7 +13,7 @@ use Rattle.book.specs.Encode.{encode}
 use Rattle.monitor.specs.Labelled.{Label, bottom, Lab, lit}
 use Rattle.monitor.specs.Run.{Cell, held, absent, update}
 use Rattle.monitor.specs.Call.{Memory, Result, call, amounts-in, presence-in, labels-in}
-use Rattle.monitor.specs.Tables.{cell, owner-region, table-region, public, may-read, constant, sum, skip, assign, both, if, out, grant-read, grant-write, revoke-read, program, trigger, Shown, Row, run-list, shows, told, changed, lent, shown}
+use Rattle.monitor.specs.Tables.{cell, owner-region, table-region, public, may-read, may-write, constant, sum, skip, assign, both, if, out, grant-read, grant-write, revoke-read, revoke-write, program, trigger, Shown, Row, run-list, shows, told, changed, lent, shown}
 use Rattle.monitor.specs.Marked.{w-file, w-cells, w-regions, w-rights, constants, w-nodes}
 use Rattle.monitor.specs.Samples.{eight}
 use Rattle.monitor.specs.declared.Answer.the-variants.{Refused, Stopped, Finished}
@@ -69,6 +69,10 @@ grant-file = granting [] (grant-read 1 1 ∷ []) (program 0 0 ∷ [])
 abbrev pub in-secret : List NodeRecord
 in-secret = constant (pos 0) ∷ sum 0 0 0 0 0 ∷ grant-read 1 1 ∷ if 1 2 2 ∷ []
 
+-- 7: 0 is shown to user 1, who is granted the right to write region 1; the rights to read and write it are revoked
+abbrev pub other-kinds : List NodeRecord
+other-kinds = constant (pos 0) ∷ out 0 1 ∷ grant-write 1 1 ∷ revoke-read 1 1 ∷ revoke-write 1 1 ∷ both 1 2 ∷ both 5 3 ∷ both 6 4 ∷ []
+
 unfoldable pub reaches : List Reaching
 reaches =
     -- W, of user 1: region 0, and not the region that user 2 may read
@@ -84,6 +88,8 @@ reaches =
     -- the first and the last user
     ∷ idle (may-read 0 0 ∷ may-read 7 1 ∷ []) (0 ∷ []) owner-1
     ∷ idle (may-read 0 0 ∷ may-read 7 1 ∷ []) (7 ∷ []) owner-2
+    -- what a user may write does not count
+    ∷ idle (may-write 1 0 ∷ []) (1 ∷ []) bottom
     -- a read grant that is carried out counts for its user, and for nobody else
     ∷ record { row = run-list grant-file (shows 0 0 1 8 (changed 2 1 1 ∷ [])); group = 1 ∷ []; reach = owner-2 }
     ∷ record { row = run-list grant-file (shows 0 0 1 8 (changed 2 1 1 ∷ [])); group = 0 ∷ 2 ∷ []; reach = bottom }
@@ -108,9 +114,9 @@ reaches =
     ∷ record { row = run-list (granting [] (grant-read 1 1 ∷ []) (program 1 0 ∷ [])) (shows 28 0 1 0 []); group = 1 ∷ []; reach = bottom }
     ∷ record { row = run-list (granting [] in-secret (program 0 3 ∷ [])) (shows 29 2 10 0 []); group = 1 ∷ []; reach = bottom }
     ∷ record { row = record { of = grant-file; budget = 100000; trace = 7; shows = shows 30 0 1 0 [] }; group = 1 ∷ []; reach = bottom }
-    -- nor does a write grant
+    -- nor does a record of another kind to him: an out, a write grant, and revokes of what he may not read and write
     ∷ record {
-      row = run-list (granting [] (grant-write 1 1 ∷ []) (program 0 0 ∷ [])) (shows 0 0 1 8 (changed 3 1 1 ∷ []));
+      row = run-list (granting [] other-kinds (program 0 7 ∷ [])) (shows 0 0 8 32 (told 0 ∷ changed 3 1 1 ∷ changed 4 1 1 ∷ changed 5 1 1 ∷ []));
       group = 1 ∷ [];
       reach = bottom;
     }
