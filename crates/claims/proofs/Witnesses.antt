@@ -1,13 +1,13 @@
 -- The witnesses hold, by computation. Assumes nothing.
-use mathlib.Core.Path.{_≡_, refl, sym, ap}
-use mathlib.Core.List.{List, [], _∷_, map}
+use mathlib.Core.Path.{_≡_, refl, sym, ap, _∙_}
+use mathlib.Core.List.{List, [], _∷_, _++_, map, append-nil}
 use mathlib.Core.Bool.{Bool, true, false, false≢true}
 use mathlib.Core.Logic.{inl, inr, ⊎-elim}
-use Prim.Native.Nat.{ℕ, _<_}
+use Prim.Native.Nat.{ℕ, _≤_, _<_}
 use native.Mathlib.Omega.{arith}
 use lib.Dec.{eqb}
 use lib.IntN.{ℤ}
-use lib.ListN.{length, getD}
+use lib.ListN.{length, getD, length-append}
 use lib.Signed.{mag}
 use borrow.Author.Tests.{eqb-false}
 use Rattle.book.specs.Bytes.{byte}
@@ -18,7 +18,7 @@ use Rattle.monitor.specs.Run.{Cell}
 use Rattle.monitor.specs.Call.{Memory, Result, script, call}
 use Rattle.monitor.specs.Tables.{Shown, Row, told, lent, shown}
 use Rattle.monitor.specs.Marked.{w-file}
-use Rattle.claims.specs.TwoBooks.{Group, accepted, group-trace, reach, InsideEither, SameInside, cells-in}
+use Rattle.claims.specs.TwoBooks.{Group, accepted, group-trace, Begins, reach, InsideEither, SameInside, cells-in}
 use Rattle.claims.specs.Witnesses.{members, Reaching, reached, reaches, Reaches, Pair, result-of-row, Meets, both-finish, first-stops, second-stops, both-stop, Pairs, owner-1, Exclusions, Sides, join, memory-of, over-at, over, broken, Leaks, NoLeaks, Terms}
 use Rattle.claims.proofs.Calls.{call-quick, call-is, left-quick, left-is}
 use Rattle.claims.proofs.Inside.{below, same-amount, alike, differ-outside, same-start, only-same, only-outside, only-beyond, from-memory, to-memory}
@@ -209,6 +209,13 @@ no-leaks = record {
 
 -- ---- the terms
 
+begins-both : (x y : List (List ℕ)) → Begins x y → Begins y x → x ≡ y
+begins-both x y a b = go (a .rest) (a .is) (omega (arith, simp length-append at (ap length (b .is)), ap length (a .is)))
+  where
+    go : (rest : List (List ℕ)) → x ++ rest ≡ y → length (x ++ rest) ≤ length x → x ≡ y
+    go [] e h = sym (append-nil x) ∙ e
+    go (r ∷ rest) e h = absurd (let z : ⊥ = omega (arith, simp length-append at h) in z)
+
 pub terms : Terms
 unfolding left-quick members byte-of
 terms = record {
@@ -220,4 +227,5 @@ terms = record {
   all-begins = record { rest = []; is = refl };
   more-not = λ b. unlike (byte-of 1 0) (b .is) refl;
   other-not = λ b. unlike (byte-of 0 4) (b .is) refl;
+  both-begin = begins-both;
 }

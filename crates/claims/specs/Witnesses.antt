@@ -390,3 +390,5 @@ pub record Terms : Type 0 where
   pub all-begins : Begins (told 5 ∷ []) (told 5 ∷ [])
   pub more-not : Begins (told 5 ∷ told 6 ∷ []) (told 5 ∷ []) → ⊥
   pub other-not : Begins (told 6 ∷ []) (told 5 ∷ told 6 ∷ []) → ⊥
+  -- two traces that begin each other are the same; so `traces` of LearnsNothing follows from `first-whole` and `second-whole`
+  pub both-begin : (x y : List (List ℕ)) → Begins x y → Begins y x → x ≡ y
