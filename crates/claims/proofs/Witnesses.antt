@@ -13,11 +13,11 @@ use borrow.Author.Tests.{eqb-false}
 use Rattle.book.specs.Bytes.{byte}
 use Rattle.book.specs.Layout.{decode}
 use Rattle.book.specs.Refusals.{no-region, no-right, no-program}
+use Rattle.book.specs.Tables.{w-file}
 use Rattle.monitor.specs.Labelled.{Label, Lab}
 use Rattle.monitor.specs.Run.{Cell}
 use Rattle.monitor.specs.Call.{Memory, Result, script, call}
 use Rattle.monitor.specs.Tables.{Shown, Row, told, lent, shown}
-use Rattle.monitor.specs.Marked.{w-file}
 use Rattle.claims.specs.TwoBooks.{Group, accepted, group-trace, Begins, reach, InsideEither, SameInside, cells-in}
 use Rattle.claims.specs.Witnesses.{members, Reaching, reached, reaches, Reaches, Pair, result-of-row, Meets, both-finish, first-stops, second-stops, both-stop, Pairs, owner-1, Exclusions, Sides, join, memory-of, over-at, over, broken, Leaks, NoLeaks, Terms}
 use Rattle.claims.proofs.Calls.{call-quick, call-is, left-quick, left-is}

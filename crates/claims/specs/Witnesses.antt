@@ -10,11 +10,11 @@ use lib.IntN.{ℤ, pos}
 use lib.ListN.{length}
 use Rattle.book.specs.Records.{CellRecord, RegionRecord, RightRecord, NodeRecord, ProgramRecord, TriggerRecord}
 use Rattle.book.specs.Encode.{encode}
+use Rattle.book.specs.Tables.{cell, owner-region, table-region, public, may-read, may-write, constant, sum, skip, assign, both, if, out, grant-read, grant-write, revoke-read, revoke-write, program, trigger, w-file, w-cells, w-regions, w-rights, constants, w-nodes}
 use Rattle.monitor.specs.Labelled.{Label, bottom, Lab, lit}
 use Rattle.monitor.specs.Run.{Cell, held, absent, update}
 use Rattle.monitor.specs.Call.{Memory, Result, call, amounts-in, presence-in, labels-in}
-use Rattle.monitor.specs.Tables.{cell, owner-region, table-region, public, may-read, may-write, constant, sum, skip, assign, both, if, out, grant-read, grant-write, revoke-read, revoke-write, program, trigger, Shown, Row, run-list, shows, told, changed, lent, shown}
-use Rattle.monitor.specs.Marked.{w-file, w-cells, w-regions, w-rights, constants, w-nodes}
+use Rattle.monitor.specs.Tables.{Shown, Row, run-list, shows, told, changed, lent, shown}
 use Rattle.monitor.specs.Samples.{eight}
 use Rattle.monitor.specs.declared.Answer.the-variants.{Refused, Stopped, Finished}
 use Rattle.claims.specs.TwoBooks.{Group, accepted, finished, visible, group-trace, Begins, reach, SameInside, DifferOutside, cells-in}
