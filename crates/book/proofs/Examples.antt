@@ -1,5 +1,5 @@
 -- The worked examples hold, by computation: every definition that they compute with is opened in one place. Assumes nothing.
-use mathlib.Core.Path.{_≡_, refl}
+use mathlib.Core.Path.{refl}
 use Rattle.places.specs.Sets.{has, word-of, set-of}
 use Rattle.regions.specs.Regions.{in-region}
 use Rattle.labels.proofs.Labels.{length-own, label-own}
