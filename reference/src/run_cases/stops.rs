@@ -263,11 +263,7 @@ fn variables() -> Vec<Fault> {
             let assign = assign(b, 15, 1);
             b.repeat(secret, assign)
         }),
-        fault(25, |b| {
-            let open = amount(b, 7, 0, 0);
-            let raise = b.raise(4, OPEN);
-            when(b, open, raise)
-        }),
+        fault(25, raise_in_public),
         fault(25, |b| {
             let secret = held(b, B);
             let assign = b.assign(4, secret);
@@ -275,6 +271,13 @@ fn variables() -> Vec<Fault> {
         }),
         fault(25, forgotten_label),
     ]
+}
+
+/// What is public counts in a context as anything else.
+fn raise_in_public(b: &mut Builder) -> u16 {
+    let open = amount(b, 7, 0, 0);
+    let raise = b.raise(4, OPEN);
+    when(b, open, raise)
 }
 
 /// A variable labelled by A may be assigned in A's context, until an assignment
