@@ -17,8 +17,9 @@ pub(super) fn files() -> Vec<Vec<u8>> {
         files.extend([shared(leaf), unreached(leaf), long_chain(leaf)]);
     }
     files.extend(number_traps());
-    files.push(two_to_the_thousand(kind::SKIP, 0));
-    files.push(two_to_the_thousand(kind::OUT, 7));
+    // Bodies 256, 257 and 299, and the last node.
+    files.extend([257, 258, 300, 1_024].map(|count| many_ways(kind::SKIP, 0, count)));
+    files.push(many_ways(kind::OUT, 7, 1_024));
     files
 }
 
@@ -166,10 +167,11 @@ fn number_traps() -> Vec<Vec<u8>> {
         .collect()
 }
 
-/// A body that reaches this command in more ways than can be gone one by one.
-fn two_to_the_thousand(kind: u8, p: u8) -> Vec<u8> {
+/// A body that reaches this command in more ways than can be gone one by one. It
+/// is the last of so many nodes.
+fn many_ways(kind: u8, p: u8, count: usize) -> Vec<u8> {
     let mut b = surroundings();
     let leaf = b.node(node(kind, p, [0; 4]));
-    let body = doubled(&mut b, leaf, 1_024);
+    let body = doubled(&mut b, leaf, count);
     with_body(b, body)
 }
