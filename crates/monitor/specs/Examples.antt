@@ -144,6 +144,8 @@ examples =
     ∷ record { of = w-with (may-read 1 0 ∷ may-read 1 1 ∷ []) w-nodes (program 0 8 ∷ []); budget = 100000; trace = 15; shows = shows 30 7 19 8 (told 250 ∷ []) }
     -- with no budget at all the root is not entered
     ∷ record { of = w-with w-rights w-nodes (program 0 8 ∷ []); budget = 0; trace = 4096; shows = shows 21 8 0 0 [] }
+    -- and a budget of 1 is enough for one node
+    ∷ record { of = w-with w-rights (skip ∷ []) (program 0 4 ∷ []); budget = 1; trace = 4096; shows = shows 0 0 1 0 [] }
     -- an assigned variable's label does not keep the old one; seven nodes
     ∷ run-list (w-with w-rights lowered (program 0 9 ∷ [])) (shows 0 0 7 8 (told 1 ∷ []))
     -- a while costs 2 for each of its three tests, its body 4 for each of two turns; 9, 4 and a constant cost 3

@@ -92,15 +92,18 @@ pub record RuleClauses : Type 0 where
   pub corners : map (Rules.in-box middle) (11 ∷ 21 ∷ 3 ∷ 27 ∷ 10 ∷ 14 ∷ []) ≡ true ∷ true ∷ false ∷ false ∷ false ∷ false ∷ []
   pub outside-bounds : map (Rules.in-box beyond-all) (0 ∷ 63 ∷ []) ≡ true ∷ true ∷ []
   pub crossed-bounds : map (λ x. Rules.in-box x 10) (crossed ∷ crossed-lines ∷ []) ≡ false ∷ false ∷ []
-  -- four places from 4 on: all cells with all labels, present or absent, places rising; and the odd ones
+  -- four places from 4 on: all cells with all labels, present or absent, places rising; and the odd ones of four places from 5 on
   pub gathered : Rules.gather sample-cells (λ q. true) 4 4 ≡ record { val = held (pos 4) ∷ held (pos 5) ∷ absent ∷ held (pos 7) ∷ []; lab = eight 240 }
-  pub gathered-odd : Rules.gather sample-cells (λ q. eqb (q % 2) 1) 4 4 ≡ record { val = held (pos 5) ∷ held (pos 7) ∷ []; lab = eight 160 }
+  pub gathered-odd : Rules.gather sample-cells (λ q. eqb (q % 2) 1) 5 4 ≡ record { val = held (pos 5) ∷ held (pos 7) ∷ []; lab = eight 160 }
   -- table 1 is places 64 to 127; the label of the bounds counts too
   pub seen-last : Rules.seen 1 (labelled last-cell 1) sample ≡ record { val = held (pos 127) ∷ []; lab = eight (1 + 2 ^ 127) }
   pub seen-first : Rules.seen 1 (labelled first-cell 2) sample ≡ record { val = held (pos 64) ∷ []; lab = eight (2 + 2 ^ 64) }
   -- count, sum, smallest, largest of the present cells, and of none
   pub aggregates : map (λ kind. Rules.aggregate kind some-cells) (8 ∷ 9 ∷ 10 ∷ 11 ∷ []) ≡ pos 4 ∷ pos 11 ∷ negsuc 4 ∷ pos 9 ∷ []
   pub of-nothing : map (λ kind. Rules.aggregate kind (absent ∷ [])) (8 ∷ 9 ∷ 10 ∷ 11 ∷ []) ≡ pos 0 ∷ pos 0 ∷ pos 0 ∷ pos 0 ∷ []
+  -- smallest and largest of amounts on one side of 0
+  pub smallest-above : map (λ kind. Rules.aggregate kind (held (pos 9) ∷ held (pos 3) ∷ [])) (10 ∷ 11 ∷ []) ≡ pos 3 ∷ pos 9 ∷ []
+  pub largest-below : map (λ kind. Rules.aggregate kind (held (negsuc 9) ∷ held (negsuc 3) ∷ [])) (10 ∷ 11 ∷ []) ≡ negsuc 9 ∷ negsuc 3 ∷ []
   -- 22
   pub in-range : ending (Rules.ranged 9 (labelled (pos 5) 1) sample) ≡ went [] (labelled (pos 5) 1)
   pub out-of-range : ending (Rules.ranged 9 (labelled (pos 2147483648) 1) sample) ≡ halted [] 22 9 (eight 0)
@@ -115,6 +118,10 @@ pub record RuleClauses : Type 0 where
   pub queries : ending (Rules.expr giving 9 (syntax.query 9 1 1 2 3 5) sample)
       ≡ went (said 1 (pos 100) ∷ said 2 (pos 99) ∷ said 3 (pos 98) ∷ said 5 (pos 97) ∷ [])
       (record { val = pos 480; lab = eight (46 + 2 ^ 75 + 2 ^ 76 + 2 ^ 77 + 2 ^ 83 + 2 ^ 84 + 2 ^ 85) })
+  -- how many they are
+  pub queries-count : ending (Rules.expr giving 9 (syntax.query 8 1 1 2 3 5) (having 4 0))
+      ≡ went (said 1 (pos 4) ∷ said 2 (pos 3) ∷ said 3 (pos 2) ∷ said 5 (pos 1) ∷ [])
+      (record { val = pos 6; lab = eight (46 + 2 ^ 75 + 2 ^ 76 + 2 ^ 77 + 2 ^ 83 + 2 ^ 84 + 2 ^ 85) })
   -- 22 for each: 2147483647 + 1, -2147483648 - 1, and a sum of six cells
   pub sums-in-range : ending (Rules.expr (largest-or-one (pos 2147483647)) 9 (syntax.add 5 3) sample) ≡ halted [] 22 9 (eight 0)
   pub differences-in-range : ending (Rules.expr (largest-or-one (negsuc 2147483647)) 9 (syntax.minus 5 3) sample) ≡ halted [] 22 9 (eight 0)
@@ -130,6 +137,8 @@ pub record RuleClauses : Type 0 where
       ≡ true ∷ true ∷ false ∷ false ∷ false ∷ false ∷ []
   -- ---- the write of a cell: 23, 24 and 26 in this order, on its node; then the cell, with context and amount for its label
   pub posted : final (Rules.posting true 9 (6 ∷ []) 3 0 (key-of (pos 1) (pos 2)) (labelled (held (pos 5)) 8) sample) .cells 10 ≡ labelled (held (pos 5)) 14
+  pub posted-there : map (final (Rules.posting true 9 (6 ∷ []) 5 1 (key-of (pos 1) (pos 2)) (labelled (held (pos 5)) 8) sample) .cells) (10 ∷ 74 ∷ [])
+      ≡ labelled (held (pos 10)) 1046 ∷ labelled (held (pos 5)) 14 ∷ []
   pub no-key : ending (Rules.posting true 9 (32 ∷ []) 4 0 (key-of (pos 8) (pos 2)) (labelled (held (pos 5)) 8) sample) ≡ halted [] 23 9 (eight 0)
   pub no-right : ending (Rules.posting true 9 (32 ∷ []) 4 0 (key-of (pos 1) (pos 2)) (labelled (held (pos 5)) 8) sample) ≡ halted [] 24 9 (eight 0)
   pub no-right-there : ending (Rules.posting true 9 (6 ∷ []) 3 1 (key-of (pos 1) (pos 2)) (labelled (held (pos 5)) 8) sample) ≡ halted [] 24 9 (eight 0)
@@ -180,21 +189,24 @@ pub record RuleClauses : Type 0 where
   pub puts : (ending (does here (syntax.put 0 1 2 3) sample)
       ≡ went (said 1 (pos 100) ∷ said 2 (pos 99) ∷ said 3 (pos 98) ∷ changed 22 6 2 ∷ said 41 (pos 97) ∷ changed 22 2 5 ∷ said 44 (pos 96) ∷ []) tt)
       × (map (final (does here (syntax.put 0 1 2 3) sample) .cells) (9 ∷ 10 ∷ []) ≡ labelled (held (pos 9)) 512 ∷ labelled (held (pos 3)) 30 ∷ [])
-  -- place 3 of the key is not in the cell's old label, and neither is place 5 of the context
+  -- in table 1 they are those of table 1
+  pub puts-there : ending (does (in-context 16 5) (syntax.put 1 1 2 3) sample)
+      ≡ went (said 1 (pos 100) ∷ said 2 (pos 99) ∷ said 3 (pos 98) ∷ changed 22 4 4 ∷ said 43 (pos 97) ∷ []) tt
+  -- place 5 of the context is not in the cell's old label, and user 4 may not write the cell
   pub puts-not : map (λ e. ending (does e (syntax.put 0 1 2 3) sample)) (in-context 32 3 ∷ in-context 16 4 ∷ [])
       ≡ halted (said 1 (pos 100) ∷ said 2 (pos 99) ∷ said 3 (pos 98) ∷ []) 26 9 (32 ∷ []) ∷ halted (said 1 (pos 100) ∷ said 2 (pos 99) ∷ said 3 (pos 98) ∷ []) 24 9 (eight 0) ∷ []
   -- 22: the cell is absent and has context plus key label; the trigger of event 2 runs
   pub clears : (ending (does here (syntax.clear 0 1 2) sample) ≡ went (said 1 (pos 100) ∷ said 2 (pos 99) ∷ changed 22 7 3 ∷ said 42 (pos 98) ∷ []) tt)
       × (final (does here (syntax.clear 0 1 2) sample) .cells 10 ≡ record { val = absent; lab = eight 22 })
-  -- 23: user 3 may read places 3 and 11, and places 4 and 5 are public; place 6 is neither
-  pub tells : ending (does here (syntax.out 3 3) sample) ≡ went (said 3 (pos 100) ∷ said 3 (pos 3) ∷ []) tt
-  pub tells-not : ending (does here (syntax.out 3 6) sample) ≡ halted (said 6 (pos 100) ∷ []) 27 9 (eight 64)
-  pub tells-not-in-context : ending (does (in-context 64 3) (syntax.out 3 3) sample) ≡ halted (said 3 (pos 100) ∷ []) 27 9 (eight 64)
-  pub tells-unlabelled : ending (does-unlabelled here (syntax.out 3 6) sample) ≡ went (said 6 (pos 100) ∷ said 3 (pos 6) ∷ []) tt
-  pub tells-rights : final (does here (syntax.out 3 3) sample) .rights .read 3 ≡ 2056 ∷ []
+  -- 23: user 2 may read places 2 and 10, and places 4 and 5 are public; place 6 is neither
+  pub tells : ending (does here (syntax.out 2 2) sample) ≡ went (said 2 (pos 100) ∷ said 2 (pos 2) ∷ []) tt
+  pub tells-not : ending (does here (syntax.out 2 6) sample) ≡ halted (said 6 (pos 100) ∷ []) 27 9 (eight 64)
+  pub tells-not-in-context : ending (does (in-context 64 3) (syntax.out 2 2) sample) ≡ halted (said 2 (pos 100) ∷ []) 27 9 (eight 64)
+  pub tells-unlabelled : ending (does-unlabelled here (syntax.out 2 6) sample) ≡ went (said 6 (pos 100) ∷ said 2 (pos 6) ∷ []) tt
+  pub tells-rights : final (does here (syntax.out 2 2) sample) .rights .read 2 ≡ 1028 ∷ []
   -- 27 comes before 30
-  pub tells-no-room : map (λ a. ending (does here (syntax.out 3 a) (having 100 0))) (3 ∷ 6 ∷ [])
-      ≡ halted (said 3 (pos 100) ∷ []) 30 9 (eight 0) ∷ halted (said 6 (pos 100) ∷ []) 27 9 (eight 64) ∷ []
+  pub tells-no-room : map (λ a. ending (does here (syntax.out 2 a) (having 100 0))) (2 ∷ 6 ∷ [])
+      ≡ halted (said 2 (pos 100) ∷ []) 30 9 (eight 0) ∷ halted (said 6 (pos 100) ∷ []) 27 9 (eight 64) ∷ []
   -- 24 and 25: user 0, in a context that is public; the record, and the right
   pub grants : map (λ c. ending (does office c sample)) (syntax.grant 3 1 1 ∷ syntax.grant 3 1 2 ∷ syntax.revoke 3 1 1 ∷ syntax.revoke 3 1 2 ∷ [])
       ≡ went (changed 2 3 1 ∷ []) tt ∷ went (changed 3 3 1 ∷ []) tt ∷ went (changed 4 3 1 ∷ []) tt ∷ went (changed 5 3 1 ∷ []) tt ∷ []
@@ -211,6 +223,7 @@ pub record RuleClauses : Type 0 where
       ≡ went (changed 2 3 1 ∷ []) tt ∷ went (changed 4 3 1 ∷ []) tt ∷ []
   -- 26: the value stays, and the label gains the region's places; 25 as for an assignment
   pub raises : map (final (does here (syntax.raise 6 1) sample) .vars) (5 ∷ 6 ∷ []) ≡ labelled (pos 15) 48 ∷ record { val = pos 16; lab = eight 65360 } ∷ []
+  pub raises-unlabelled : final (does-unlabelled here (syntax.raise 4 1) sample) .vars 4 ≡ record { val = pos 14; lab = eight 65312 }
   pub raises-not : ending (does here (syntax.raise 4 1) sample) ≡ halted [] 25 9 (16 ∷ [])
   -- ---- nodes and programs
   pub costs : map (Rules.cost-at small) (0 ∷ 1 ∷ 2 ∷ []) ≡ 1 ∷ 4 ∷ 1 ∷ []

@@ -47,16 +47,17 @@ key-of owner line = record { owner = owner; line = line }
 
 -- ---- a state
 
--- Cell q holds q and has its own place for its label. Cell 6 is absent. Cell 10 (owner 1, line 2) has places 1, 2 and 4 too.
+-- Cell q holds q and has its own place for its label. Cell 6 is absent. Cell 10, owner 1's line 2 in table 0, has places 1, 2 and 4 too,
+-- and cell 74, the same in table 1, has these alone.
 abbrev pub sample-cells : ℕ → Lab Cell
-sample-cells q = labelled (cond (eqb q 6) absent (held (pos q))) (cond (eqb q 10) 1046 (2 ^ q))
+sample-cells q = labelled (cond (eqb q 6) absent (held (pos q))) (cond (eqb q 10) 1046 (cond (eqb q 74) 22 (2 ^ q)))
 
--- Variable p is 10 + p. The labels of all but variable 4 have place 4; user 3 may write places 0 and 10.
+-- Variable p is 10 + p. The labels of all but variable 4 have place 4; user 3 may write places 0 and 10, and user 5 place 74.
 abbrev pub sample : State
 sample = record {
   cells = sample-cells;
   vars = λ p. labelled (pos (10 + p)) (16 + 2 ^ p);
-  rights = record { read = λ u. (2 ^ u + 2 ^ (8 + u)) ∷ []; write = λ u. cond (eqb u 3) 1025 0 ∷ [] };
+  rights = record { read = λ u. (2 ^ u + 2 ^ (8 + u)) ∷ []; write = λ u. cond (eqb u 3) (1025 ∷ []) (cond (eqb u 5) (0 ∷ 1024 ∷ []) (0 ∷ [])) };
   left = 100;
   room = 5;
 }
