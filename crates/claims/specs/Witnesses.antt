@@ -260,7 +260,7 @@ pub record Pairs : Type 0 where
 
 -- ---- books that differ in more than cells outside the reach
 
--- W with another part
+-- W's nodes, and W with other cells
 abbrev pub w-nodes-all : List NodeRecord
 w-nodes-all = constants ++ w-nodes
 
@@ -272,17 +272,18 @@ abbrev pub Excluded : List ℕ → Type 0
 Excluded file = DifferOutside owner-1 w-file file → ⊥
 
 pub record Exclusions : Type 0 where
-  -- a cell inside, by its amount, and by its presence alone, in either book
+  -- a cell inside: by its amount, by its presence alone, and by both
   pub amount : Excluded (w-other-cells (cell 0 1 0 (pos 251) ∷ cell 0 2 0 (pos 900) ∷ []))
   pub there : Excluded (w-other-cells (cell 0 1 0 (pos 250) ∷ cell 0 1 7 (pos 0) ∷ cell 0 2 0 (pos 900) ∷ []))
   pub gone : Excluded (w-other-cells (cell 0 2 0 (pos 900) ∷ []))
-  -- a record of each other section, or their order
+  -- a record of each other section, or their order; that the trigger's body is refused is beside the point, as acceptance is a premise
+  -- of its own
   pub regions : Excluded (file-of w-cells (owner-region 0 1 ∷ owner-region 0 3 ∷ []) w-rights w-nodes-all (program 0 8 ∷ []) [])
   pub rights : Excluded (file-of w-cells w-regions (may-read 1 0 ∷ may-read 3 1 ∷ []) w-nodes-all (program 0 8 ∷ []) [])
   pub order : Excluded (file-of w-cells w-regions (may-read 2 1 ∷ may-read 1 0 ∷ []) w-nodes-all (program 0 8 ∷ []) [])
   pub nodes : Excluded (file-of w-cells w-regions w-rights (w-nodes-all ++ (skip ∷ [])) (program 0 8 ∷ []) [])
   pub programs : Excluded (file-of w-cells w-regions w-rights w-nodes-all (program 0 6 ∷ []) [])
-  pub triggers : Excluded (file-of w-cells w-regions w-rights (constants ++ w-nodes) (program 0 8 ∷ []) (trigger 0 1 3 6 ∷ []))
+  pub triggers : Excluded (file-of w-cells w-regions w-rights w-nodes-all (program 0 8 ∷ []) (trigger 0 1 3 6 ∷ []))
 
 -- ---- cells that are the same inside a reach
 
