@@ -3,7 +3,7 @@ use mathlib.Core.Path.{refl}
 use Rattle.places.specs.Sets.{single}
 use Rattle.labels.specs.Labels.{own-labels}
 use Rattle.book.specs.Start.{start-amounts, start-presence}
-use Rattle.monitor.specs.Call.{cells-of, amounts-in, presence-in, labels-in, start-cells, start-state, answered}
+use Rattle.monitor.specs.Call.{cells-of, amounts-in, presence-in, labels-in, start-cells, start-state, run-book, answered}
 use Rattle.book.specs.Tables.{w-file}
 use Rattle.monitor.specs.RunClauses.{RunClauses}
 use Rattle.monitor.specs.RuleClauses.{RuleClauses}
@@ -159,7 +159,7 @@ rule-clauses = record {
 }
 
 pub call-clauses : CallClauses
-unfolding called-quick w-file cells-of amounts-in presence-in labels-in start-cells start-state start-amounts start-presence own-labels single answered
+unfolding called-quick w-file cells-of amounts-in presence-in labels-in start-cells start-state run-book start-amounts start-presence own-labels single answered
 call-clauses = record {
   numbers = refl;
   cells-lent = refl;
@@ -176,6 +176,8 @@ call-clauses = record {
   start-of-vars = refl;
   start-of-rights = (refl, refl);
   start-of-counts = (refl, refl);
+  runs = (refl, refl);
+  runs-labelled = refl;
   lengths-fit = refl;
   lengths-refused = refl;
   budget-refused = refl;
@@ -186,5 +188,6 @@ call-clauses = record {
   stops = refl;
   traces-left = refl;
   refused-untouched = refl;
+  room-of-trace = refl;
   counted = refl;
 }

@@ -5,13 +5,15 @@ use mathlib.Core.Bool.{true, false}
 use Prim.Native.Nat.{ℕ, _+_, _^_}
 use lib.IntN.{pos, negsuc}
 use lib.ListN.{getD, take, drop, replicate}
+use Rattle.book.specs.Records.{Book}
+use Rattle.book.specs.Encode.{encode}
+use Rattle.book.specs.Tables.{table-region, constant, variable, both, out, raise, program, w-file}
 use Rattle.book.specs.declared.Verdict.{Verdict}
 use Rattle.book.specs.declared.Verdict.the-variants as verdicts
-use Rattle.book.specs.Tables.{w-file}
 use Rattle.monitor.specs.Labelled.{lit}
 use Rattle.monitor.specs.Run.{held, absent, said, changed, Out, done, stop}
 use Rattle.monitor.specs.Call
-use Rattle.monitor.specs.Samples.{eight, sample-cells, sample, small}
+use Rattle.monitor.specs.Samples.{went, halted, ending, final, counts, eight, sample-cells, sample, small}
 use Rattle.monitor.specs.declared.Answer.the-variants.{Refused, Stopped, Finished}
 
 -- ---- lent memory for the clauses
@@ -30,6 +32,28 @@ verdict-of budget m = Call.call-verdict w-file budget m
 
 abbrev pub refused-1 : Verdict
 refused-1 = verdicts.Refused 1 0
+
+-- variable 0 is raised by table 0, which user 1 may not read, and shown to him
+abbrev pub raising : Book
+raising = record {
+  cells = [];
+  regions = table-region 0 ∷ [];
+  rights = [];
+  nodes = raise 0 0 ∷ variable 0 ∷ out 1 1 ∷ both 0 2 ∷ [];
+  programs = program 0 3 ∷ [];
+  triggers = [];
+}
+
+-- the file of a book that tells user 1 the constant 0 twice
+abbrev pub telling-twice : List ℕ
+telling-twice = encode (record {
+  cells = [];
+  regions = [];
+  rights = [];
+  nodes = constant (pos 0) ∷ out 0 1 ∷ both 1 1 ∷ [];
+  programs = program 0 2 ∷ [];
+  triggers = [];
+})
 
 -- a run that told two records and left 93
 abbrev pub finished-run : Out (Unit {0})
@@ -71,6 +95,10 @@ pub record CallClauses : Type 0 where
   pub start-of-rights : (map (Call.start-state small 77 9 .rights .read) (5 ∷ 6 ∷ []) ≡ eight 65280 ∷ eight 0 ∷ [])
       × (map (Call.start-state small 77 9 .rights .write) (5 ∷ 6 ∷ []) ≡ eight 0 ∷ eight 48 ∷ [])
   pub start-of-counts : (Call.start-state small 77 9 .left ≡ 77) × (Call.start-state small 77 9 .room ≡ 9)
+  -- the run starts with the whole budget and the whole room, and makes the tests of labels or not
+  pub runs : (ending (Call.run-book true small 77 9) ≡ went [] tt) × (counts (final (Call.run-book true small 77 9)) ≡ 76 ∷ 9 ∷ [])
+  pub runs-labelled : map (λ labels. ending (Call.run-book labels raising 77 9)) (true ∷ false ∷ [])
+      ≡ halted [] 27 2 (eight 18446744073709551615) ∷ went (said 1 (pos 0) ∷ []) tt ∷ []
   -- 1: each lent length, one less and one more; trace and budget at their most and one more
   pub lengths-fit : verdict-of 1000000 (lent 512 8 4096 0) ∷ verdict-of 0 (lent 512 8 4096 65536) ∷ [] ≡ verdicts.Accepted ∷ verdicts.Accepted ∷ []
   pub lengths-refused : map (verdict-of 100) (lent 511 8 4096 0 ∷ lent 513 8 4096 0 ∷ lent 512 7 4096 0 ∷ lent 512 9 4096 0 ∷ lent 512 8 4095 0 ∷ lent 512 8 4097 0 ∷ lent 512 8 4096 65537 ∷ [])
@@ -89,6 +117,9 @@ pub record CallClauses : Type 0 where
       ≡ (1 ∷ 1 ∷ 0 ∷ 0 ∷ 5 ∷ 0 ∷ 0 ∷ 0 ∷ 2 ∷ []) ∷ (1 ∷ 1 ∷ 0 ∷ 0 ∷ 5 ∷ 0 ∷ 0 ∷ 0 ∷ 4 ∷ []) ∷ []
   -- refused: lent memory as it was
   pub refused-untouched : Call.answered true w-file 100 nineteen (verdicts.Refused 8 3) ≡ record { answer = Refused 8 3; memory = nineteen }
+  -- fifteen trace bytes are room for one record, sixteen for two
+  pub room-of-trace : map (λ bytes. Call.answered true telling-twice 100 (lent 512 8 4096 bytes) verdicts.Accepted .answer) (15 ∷ 16 ∷ [])
+      ≡ Stopped 30 1 5 8 ∷ Finished 5 16 ∷ []
   -- the records that the answer counts, and no more
   pub counted : map Call.trace-records
       (record { answer = Finished 7 16; memory = record { amounts = []; presence = []; labels = []; trace = two-records } }

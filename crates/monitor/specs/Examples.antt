@@ -194,6 +194,8 @@ examples =
     ∷ run-list (w-with (may-write 0 0 ∷ []) clearing (program 0 7 ∷ [])) (shows 0 0 13 8 (told 0 ∷ []))
     -- each program has variables of its own: assignment and constant, out and variable
     ∷ run-list (w-with w-rights one-each (program 0 4 ∷ program 0 6 ∷ [])) (shows 0 0 4 8 (told 0 ∷ []))
+    -- a program's context is empty, also where something is public: assignment and constant
+    ∷ run-list (w-with (public 0 ∷ []) one-each (program 0 4 ∷ [])) (shows 0 0 2 0 [])
     -- a trigger copies a put with its own user's rights: 10, put and three constants, the copy's 4, out and query
     ∷ run-list (posting [] posted 10 (trigger 0 1 3 6 ∷ [])) (shows 0 0 18 8 (told 2 ∷ []))
     -- where its user may not write table 1, it stops on the copy
