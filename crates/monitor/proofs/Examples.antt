@@ -2,7 +2,7 @@
 use mathlib.Core.Path.{refl}
 use mathlib.Core.Bool.{true, false}
 use Rattle.monitor.specs.Examples.{examples, Examples, unlabelled, Unlabelled}
-use Rattle.monitor.specs.Leaks.{leaks, Leaks}
+use Rattle.monitor.specs.Shortcuts.{shortcuts, Shortcuts}
 use Rattle.monitor.proofs.Tables.{ran-quick, by-running}
 
 pub worked-examples : Examples
@@ -13,6 +13,6 @@ pub unlabelled-examples : Unlabelled
 unfolding ran-quick unlabelled
 unlabelled-examples = by-running false unlabelled (λ z n. refl)
 
-pub no-leaks : Leaks
-unfolding ran-quick leaks
-no-leaks = by-running true leaks (λ z n. refl)
+pub no-shortcuts : Shortcuts
+unfolding ran-quick shortcuts
+no-shortcuts = by-running true shortcuts (λ z n. refl)

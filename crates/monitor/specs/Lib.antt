@@ -6,7 +6,7 @@ pub mod Call
 pub mod Tables
 pub mod Marked
 pub mod Examples
-pub mod Leaks
+pub mod Shortcuts
 pub mod Samples
 pub mod RunClauses
 pub mod RuleClauses

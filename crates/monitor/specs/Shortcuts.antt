@@ -1,5 +1,5 @@
--- Leaks that the rules do not allow: books two by two, which differ in one cell that user 1 may not read. With the shortcut that is
--- named above a pair both runs would finish, and what user 1 is told would differ: a leak, and demand 3 false.
+-- The leaks that a shortcut would open, and the rules do not: books two by two, which differ in one cell that user 1 may not read.
+-- With the shortcut that is named above a pair both runs would finish, and what user 1 is told would differ: demand 3 would be false.
 -- The answers are worked out by hand from the paper. A query with its four bounds costs 8, every other node 1.
 use mathlib.Core.List.{List, [], _∷_, _++_}
 use mathlib.Core.Bool.{true}
@@ -50,8 +50,8 @@ by-context = skip ∷ out 1 1 ∷ if 3 5 4 ∷ grant-read 2 1 ∷ if 3 7 4 ∷ [
 abbrev pub by-clearing : List NodeRecord
 by-clearing = clear 0 2 0 ∷ put 1 0 0 1 ∷ sum 1 0 0 0 0 ∷ out 6 1 ∷ both 4 7 ∷ []
 
-unfoldable pub leaks : List (Row Book)
-leaks =
+unfoldable pub shortcuts : List (Row Book)
+shortcuts =
     -- a query labelled by its present cells only: absent, and present
     run-list (hiding [] by-presence 7 []) (shows 27 6 11 0 [])
     ∷ run-list (hiding (holds 0) by-presence 7 []) (shows 0 0 10 0 [])
@@ -75,5 +75,5 @@ leaks =
     ∷ run-list (hiding (holds 0) by-clearing 8 (trigger 0 2 3 5 ∷ [])) (shows 0 0 17 8 (told 1 ∷ []))
     ∷ []
 
-abbrev pub Leaks : Type 0
-Leaks = Shows (ran true) leaks
+abbrev pub Shortcuts : Type 0
+Shortcuts = Shows (ran true) shortcuts
