@@ -13,7 +13,7 @@ use Rattle.book.specs.declared.Verdict.the-variants as verdicts
 use Rattle.monitor.specs.Labelled.{lit}
 use Rattle.monitor.specs.Run.{held, absent, said, changed, Out, done, stop}
 use Rattle.monitor.specs.Call
-use Rattle.monitor.specs.Samples.{went, halted, ending, final, counts, eight, sample-cells, sample, small}
+use Rattle.monitor.specs.Samples.{went, halted, ending, final, counts, eight, sample-cells, sample, having, small}
 use Rattle.monitor.specs.declared.Answer.the-variants.{Refused, Stopped, Finished}
 
 -- ---- lent memory for the clauses
@@ -57,10 +57,10 @@ telling-twice = encode (record {
 
 -- a run that told two records and left 93
 abbrev pub finished-run : Out (Unit {0})
-finished-run = done (said 1 (pos 5) ∷ changed 2 3 1 ∷ []) tt (record { cells = sample .cells; vars = sample .vars; rights = sample .rights; left = 93; room = 0 })
+finished-run = done (said 1 (pos 5) ∷ changed 2 3 1 ∷ []) tt (having 93 0)
 
 abbrev pub stopped-run : Out (Unit {0})
-stopped-run = stop (said 1 (pos 5) ∷ []) (record { number = 27; node = 9; obstacle = [] }) (record { cells = sample .cells; vars = sample .vars; rights = sample .rights; left = 93; room = 0 })
+stopped-run = stop (said 1 (pos 5) ∷ []) (record { number = 27; node = 9; obstacle = [] }) (having 93 0)
 
 -- the bytes of the two records
 abbrev pub two-records : List ℕ

@@ -8,7 +8,7 @@ use lib.IntN.{ℤ, pos, negsuc}
 use Rattle.book.specs.Records.{NodeRecord}
 use Rattle.book.specs.Tables.{trigger}
 use Rattle.monitor.specs.Labelled.{Lab, lit}
-use Rattle.monitor.specs.Run.{Cell, held, absent, State, said, changed, Out, done, M}
+use Rattle.monitor.specs.Run.{Cell, held, absent, State, said, changed, Out, done, M, with-cells}
 use Rattle.monitor.specs.Rules
 use Rattle.monitor.specs.Syntax as syntax
 use Rattle.monitor.specs.Samples.{went, halted, ending, final, counts, labelled, eight, key-of, sample-cells, sample, having, small, giving, running, here, office}
@@ -19,10 +19,11 @@ use Rattle.monitor.specs.Samples.{went, halted, ending, final, counts, l
 abbrev pub middle : Rules.Box
 middle = record { owners = record { first = pos 1; last = pos 2 }; lines = record { first = pos 3; last = pos 5 } }
 
--- from before the first to after the last, and from the second to the first
+-- from before the first to after the last
 abbrev pub beyond-all : Rules.Box
 beyond-all = record { owners = record { first = negsuc 0; last = pos 9 }; lines = record { first = negsuc 8; last = pos 8 } }
 
+-- owners from 2 to 1, and lines from 2 to 1
 abbrev pub crossed : Rules.Box
 crossed = record { owners = record { first = pos 2; last = pos 1 }; lines = record { first = pos 0; last = pos 7 } }
 
@@ -42,13 +43,13 @@ largest-or-one z n = λ s. done [] (labelled (cond (eqb n 5) z (pos 1)) 1) s
 
 -- each cell holds the largest amount
 abbrev pub full : State
-full = record { cells = λ q. labelled (held (pos 2147483647)) 1; vars = sample .vars; rights = sample .rights; left = 100; room = 5 }
+full = with-cells (λ q. labelled (held (pos 2147483647)) 1) sample
 
 -- smallest and largest stand in the middle
 abbrev pub some-cells : List Cell
 some-cells = held (pos 3) ∷ absent ∷ held (pos 9) ∷ held (negsuc 4) ∷ held (pos 4) ∷ []
 
--- a command of sample's user 3 on node 9, with stand-ins for its children, with labels and without
+-- a command on node 9, with stand-ins for its children, with labels and without
 abbrev pub does : Rules.Env → syntax.Cmd → State → Out (Unit {0})
 does e c = Rules.command small true giving running e 9 c
 
@@ -63,7 +64,7 @@ in-context word user = record { ctx = word ∷ []; user = user; above = 1 }
 abbrev pub reading : Rules.Env → ℕ → M (Unit {0})
 reading e n = λ s. done (said n (s .vars 0 .val) ∷ said n (s .vars 1 .val) ∷ said n (s .vars 2 .val) ∷ said n (s .vars 3 .val) ∷ []) tt s
 
--- one triggers' write of 9 at owner 1, line 2, in the context of place 4
+-- trigger n, where 9 was put at owner 1, line 2, in the context of place 4
 abbrev pub triggered : ℕ → Out (Unit {0})
 triggered n = Rules.trigger-run small true running here 1 10 (key-of (pos 1) (pos 2)) (labelled (held (pos 9)) 8) n sample
 

@@ -8,20 +8,22 @@ use Rattle.monitor.specs.Labelled.{lit, lift, lift2, via, under}
 use Rattle.monitor.specs.Run.{held, absent, Rights, said, done, stop, M, next, each, when, Test, plainly, inside, guard, need, update, spend, with-vars, with-cells, recorded, pay, set-var, set-cell, tell, sixteen, own}
 use Rattle.monitor.specs.Samples.{went, halted, ending, final, counts, labelled, eight, sample, having}
 
--- ---- runs to put together
+-- ---- runs to put together: each tells what was left of the budget, and uses up some
 
+-- gives 7
 abbrev pub one : M ℕ
 one = λ s. done (said 1 (pos (s .left)) ∷ []) 7 (spend 1 s)
 
+-- stops with 22 on node 3
 abbrev pub halting : M ℕ
 halting = λ s. stop (said 2 (pos (s .left)) ∷ []) (record { number = 22; node = 3; obstacle = 4 ∷ [] }) (spend 2 s)
 
 abbrev pub telling : ℕ → M (Unit {0})
 telling n = λ s. done (said n (pos (s .left)) ∷ []) tt (spend 1 s)
 
--- a test that passes where so much is left
-abbrev pub all-left : Test
-all-left = record { passes = true; obstacle = 8 ∷ [] }
+-- a test that passes, and one that does not
+abbrev pub always : Test
+always = record { passes = true; obstacle = 8 ∷ [] }
 
 abbrev pub never : Test
 never = record { passes = false; obstacle = 8 ∷ [] }
@@ -60,10 +62,10 @@ pub record RunClauses : Type 0 where
       ≡ record { passes = true; obstacle = 0 ∷ [] } ∷ record { passes = false; obstacle = 4 ∷ [] } ∷ record { passes = true; obstacle = 4 ∷ [] }
       ∷ record { passes = true; obstacle = eight 0 } ∷ record { passes = false; obstacle = eight 0 } ∷ []
   -- a guard: passed, the run goes on from the state tested; failed, it stops there with number and node, and nothing is told
-  pub guard-passes : ending (guard (λ s. all-left) 25 9 (telling 1) sample) ≡ went (said 1 (pos 100) ∷ []) tt
+  pub guard-passes : ending (guard (λ s. always) 25 9 (telling 1) sample) ≡ went (said 1 (pos 100) ∷ []) tt
   pub guard-stops : ending (guard (λ s. never) 25 9 (telling 1) sample) ≡ halted [] 25 9 (8 ∷ [])
   pub guard-stops-left : counts (final (guard (λ s. never) 25 9 (telling 1) sample)) ≡ 100 ∷ 5 ∷ []
-  pub need-passes : ending (need all-left 25 9 sample) ≡ went [] tt
+  pub need-passes : ending (need always 25 9 sample) ≡ went [] tt
   pub need-stops : ending (need never 25 9 sample) ≡ halted [] 25 9 (8 ∷ [])
   pub updated : map (update (λ n. n + 10) 3 7) (2 ∷ 3 ∷ 4 ∷ []) ≡ 12 ∷ 7 ∷ 14 ∷ []
   -- changes of the state: each changes its part, and the others stay
