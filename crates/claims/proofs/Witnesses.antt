@@ -19,7 +19,7 @@ use Rattle.monitor.specs.Run.{Cell}
 use Rattle.monitor.specs.Call.{Memory, Result, script, call}
 use Rattle.monitor.specs.Tables.{Shown, Row, told, lent, shown}
 use Rattle.claims.specs.TwoBooks.{Group, accepted, group-trace, Begins, reach, InsideEither, SameInside, cells-in}
-use Rattle.claims.specs.Witnesses.{members, Reaching, reached, reaches, Reaches, Pair, result-of-row, Meets, both-finish, first-stops, second-stops, both-stop, Pairs, owner-1, Exclusions, Sides, join, memory-of, over-at, over, broken, Leaks, NoLeaks, Terms}
+use Rattle.claims.specs.Witnesses.{members, Reaching, reached, reaches, Reaches, Pair, result-of-row, Meets, both-finish, first-stops, second-stops, both-stop, Pairs, owner-1, Exclusions, Sides, joined-bytes, memory-of, over-at, over, broken, Leaks, NoLeaks, Terms}
 use Rattle.claims.proofs.Calls.{call-quick, call-is, left-quick, left-is}
 use Rattle.claims.proofs.Inside.{below, same-amount, alike, differ-outside, same-start, only-same, only-outside, only-beyond, from-memory, to-memory}
 
@@ -159,7 +159,7 @@ unfolding over-at
 same-left q x y l h h' d i = only-same q x y l (from-memory owner-1 (told 5 ∷ []) (told 5 ∷ []) (told 7) (told 7) q x y h h' d) i
 
 pub leaks : Leaks
-unfolding left-quick members join memory-of over-at over broken byte-of amount-of word-of-label
+unfolding left-quick members joined-bytes memory-of over-at over broken byte-of amount-of word-of-label
 leaks = record {
   amounts = λ l. ⊎-elim (λ b. unlike (byte-of 0 4) (b .is) refl) (λ b. unlike (byte-of 0 4) (b .is) refl) (l .begins);
   less = λ l. unlike (byte-of 0 0) (l .first-whole refl .is) refl;
@@ -175,7 +175,7 @@ leaks = record {
 }
 
 pub no-leaks : NoLeaks
-unfolding left-quick members join memory-of over-at over broken
+unfolding left-quick members joined-bytes memory-of over-at over broken
 no-leaks = record {
   others = record {
     begins = inl (record { rest = []; is = refl });

@@ -316,14 +316,14 @@ pub record Sides : Type 0 where
 -- ---- two results: what is a leak to user 1, and what is not
 
 -- these records one after another
-unfoldable pub join : List (List ℕ) → List ℕ
-join [] = []
-join (r ∷ rs) = r ++ join rs
+unfoldable pub joined-bytes : List (List ℕ) → List ℕ
+joined-bytes [] = []
+joined-bytes (r ∷ rs) = r ++ joined-bytes rs
 
 -- lent memory with these records, then these bytes, and these cells
 unfoldable pub memory-of : List (List ℕ) → List ℕ → (ℕ → Lab Cell) → Memory
 memory-of records later cells =
-    record { amounts = amounts-in cells; presence = presence-in cells; labels = labels-in cells 512; trace = join records ++ later }
+    record { amounts = amounts-in cells; presence = presence-in cells; labels = labels-in cells 512; trace = joined-bytes records ++ later }
 
 -- a run that finished, told these records and left this cell at place q; another record stands in the trace behind those that the
 -- answer counts

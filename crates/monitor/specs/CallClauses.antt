@@ -13,7 +13,7 @@ use Rattle.book.specs.declared.Verdict.the-variants as verdicts
 use Rattle.monitor.specs.Labelled.{lit}
 use Rattle.monitor.specs.Run.{held, absent, said, changed, Out, done, stop}
 use Rattle.monitor.specs.Call
-use Rattle.monitor.specs.Samples.{went, halted, ending, final, counts, eight, sample-cells, sample, having, small}
+use Rattle.monitor.specs.Samples.{went, halted, ending, final, counts, eight, sample-cells, sample, having, small-book}
 use Rattle.monitor.specs.declared.Answer.the-variants.{Refused, Stopped, Finished}
 
 -- ---- lent memory for the clauses
@@ -85,18 +85,18 @@ pub record CallClauses : Type 0 where
   pub records-changed : Call.record-bytes (changed 5 6 7) ≡ 5 ∷ 6 ∷ 7 ∷ 0 ∷ 0 ∷ 0 ∷ 0 ∷ 0 ∷ []
   pub records-in-order : Call.trace-bytes (said 1 (pos 5) ∷ changed 2 3 1 ∷ []) ≡ two-records
   -- the script is the book without its cells
-  pub script-kept : Call.script small ≡ record { cells = []; regions = small .regions; rights = small .rights; nodes = small .nodes; programs = small .programs; triggers = small .triggers }
+  pub script-kept : Call.script small-book ≡ record { cells = []; regions = small-book .regions; rights = small-book .rights; nodes = small-book .nodes; programs = small-book .programs; triggers = small-book .triggers }
   -- user 1's set, and none for user 3 of three
   pub rows-of : map (Call.rows ((5 ∷ []) ∷ (6 ∷ []) ∷ (7 ∷ []) ∷ [])) (1 ∷ 3 ∷ []) ≡ (6 ∷ []) ∷ [] ∷ []
   -- the start: cell (0,0,3) holds 33 and cell (1,2,3) 44, with their own places; user 5 reads region 1 and user 6 writes region 0
-  pub start-of-cells : map (Call.start-state small 77 9 .cells) (3 ∷ 83 ∷ 84 ∷ [])
+  pub start-of-cells : map (Call.start-state small-book 77 9 .cells) (3 ∷ 83 ∷ 84 ∷ [])
       ≡ record { val = held (pos 33); lab = eight 8 } ∷ record { val = held (pos 44); lab = 0 ∷ 524288 ∷ replicate 6 0 } ∷ record { val = absent; lab = 0 ∷ 1048576 ∷ replicate 6 0 } ∷ []
-  pub start-of-vars : map (Call.start-state small 77 9 .vars) (0 ∷ 15 ∷ []) ≡ lit (pos 0) ∷ lit (pos 0) ∷ []
-  pub start-of-rights : (map (Call.start-state small 77 9 .rights .read) (5 ∷ 6 ∷ []) ≡ eight 65280 ∷ eight 0 ∷ [])
-      × (map (Call.start-state small 77 9 .rights .write) (5 ∷ 6 ∷ []) ≡ eight 0 ∷ eight 48 ∷ [])
-  pub start-of-counts : (Call.start-state small 77 9 .left ≡ 77) × (Call.start-state small 77 9 .room ≡ 9)
+  pub start-of-vars : map (Call.start-state small-book 77 9 .vars) (0 ∷ 15 ∷ []) ≡ lit (pos 0) ∷ lit (pos 0) ∷ []
+  pub start-of-rights : (map (Call.start-state small-book 77 9 .rights .read) (5 ∷ 6 ∷ []) ≡ eight 65280 ∷ eight 0 ∷ [])
+      × (map (Call.start-state small-book 77 9 .rights .write) (5 ∷ 6 ∷ []) ≡ eight 0 ∷ eight 48 ∷ [])
+  pub start-of-counts : (Call.start-state small-book 77 9 .left ≡ 77) × (Call.start-state small-book 77 9 .room ≡ 9)
   -- the run starts with the whole budget and the whole room, and makes the tests of labels or not
-  pub runs : (ending (Call.run-book true small 77 9) ≡ went [] tt) × (counts (final (Call.run-book true small 77 9)) ≡ 76 ∷ 9 ∷ [])
+  pub runs : (ending (Call.run-book true small-book 77 9) ≡ went [] tt) × (counts (final (Call.run-book true small-book 77 9)) ≡ 76 ∷ 9 ∷ [])
   pub runs-labelled : map (λ labels. ending (Call.run-book labels raising 77 9)) (true ∷ false ∷ [])
       ≡ halted [] 27 2 (eight 18446744073709551615) ∷ went (said 1 (pos 0) ∷ []) tt ∷ []
   -- 1: each lent length, one less and one more; trace and budget at their most and one more

@@ -11,7 +11,7 @@ use Rattle.monitor.specs.Labelled.{Lab, lit}
 use Rattle.monitor.specs.Run.{Cell, held, absent, State, said, changed, Out, done, M, with-cells}
 use Rattle.monitor.specs.Rules
 use Rattle.monitor.specs.Syntax as syntax
-use Rattle.monitor.specs.Samples.{went, halted, ending, final, counts, labelled, eight, key-of, sample-cells, sample, having, small, giving, running, here, office}
+use Rattle.monitor.specs.Samples.{went, halted, ending, final, counts, labelled, eight, key-of, sample-cells, sample, having, small-book, giving, running, here, office}
 
 -- ---- values for the clauses
 
@@ -51,10 +51,10 @@ some-cells = held (pos 3) ∷ absent ∷ held (pos 9) ∷ held (negsuc 4) ∷ he
 
 -- a command on node 9, with stand-ins for its children, with labels and without
 abbrev pub does : Rules.Env → syntax.Cmd → State → Out (Unit {0})
-does e c = Rules.command small true giving running e 9 c
+does e c = Rules.command small-book true giving running e 9 c
 
 abbrev pub does-unlabelled : Rules.Env → syntax.Cmd → State → Out (Unit {0})
-does-unlabelled e c = Rules.command small false giving running e 9 c
+does-unlabelled e c = Rules.command small-book false giving running e 9 c
 
 -- in another context, by another user
 abbrev pub in-context : ℕ → ℕ → Rules.Env
@@ -66,7 +66,7 @@ reading e n = λ s. done (said n (s .vars 0 .val) ∷ said n (s .vars 1 .val) �
 
 -- trigger n, where 9 was put at owner 1, line 2, in the context of place 4
 abbrev pub triggered : ℕ → Out (Unit {0})
-triggered n = Rules.trigger-run small true running here 1 10 (key-of (pos 1) (pos 2)) (labelled (held (pos 9)) 8) n sample
+triggered n = Rules.trigger-run small-book true running here 1 10 (key-of (pos 1) (pos 2)) (labelled (held (pos 9)) 8) n sample
 
 -- a node of this kind, its fields told apart
 abbrev pub node-of : ℕ → NodeRecord
@@ -150,26 +150,26 @@ pub record RuleClauses : Type 0 where
   pub trigger-variables : map (Rules.trigger-vars (16 ∷ []) (key-of (pos 1) (pos 2)) (labelled (held (pos 9)) 8)) (0 ∷ 1 ∷ 2 ∷ 3 ∷ 15 ∷ 16 ∷ [])
       ≡ labelled (pos 1) 16 ∷ labelled (pos 2) 16 ∷ labelled (pos 9) 24 ∷ labelled (pos 0) 16 ∷ labelled (pos 0) 16 ∷ record { val = pos 0; lab = [] } ∷ []
   pub numbered : Rules.numbers 2 3 ≡ 2 ∷ 3 ∷ 4 ∷ []
-  pub regions : map (Rules.region-places small) (0 ∷ 1 ∷ []) ≡ eight 48 ∷ eight 65280 ∷ []
+  pub regions : map (Rules.region-places small-book) (0 ∷ 1 ∷ []) ≡ eight 48 ∷ eight 65280 ∷ []
   -- the event fits, and the region holds the place: place 10 is of region 1, put is event 1
-  pub fits : map (Rules.fitting small 1 10) (trigger 1 1 0 0 ∷ trigger 1 2 0 0 ∷ trigger 0 1 0 0 ∷ []) ≡ true ∷ false ∷ false ∷ []
+  pub fits : map (Rules.fitting small-book 1 10) (trigger 1 1 0 0 ∷ trigger 1 2 0 0 ∷ trigger 0 1 0 0 ∷ []) ≡ true ∷ false ∷ false ∷ []
   -- trigger 1 fits: in the context, with its own user, above itself, on its body; triggers 2 and 3 do not
   pub trigger-runs : map (λ n. ending (triggered n)) (1 ∷ 2 ∷ 3 ∷ []) ≡ went (changed 16 6 2 ∷ said 41 (pos 100) ∷ []) tt ∷ went [] tt ∷ went [] tt ∷ []
-  pub trigger-reads : ending (Rules.trigger-run small true reading here 1 10 (key-of (pos 1) (pos 2)) (labelled (held (pos 9)) 8) 1 sample)
+  pub trigger-reads : ending (Rules.trigger-run small-book true reading here 1 10 (key-of (pos 1) (pos 2)) (labelled (held (pos 9)) 8) 1 sample)
       ≡ went (said 41 (pos 1) ∷ said 41 (pos 2) ∷ said 41 (pos 9) ∷ said 41 (pos 0) ∷ []) tt
   pub trigger-leaves : final (triggered 1) .vars 2 ≡ labelled (pos 12) 20
   -- those from number 1 on that fit, by number
-  pub fired : ending (Rules.fire small true running here 1 10 (key-of (pos 1) (pos 2)) (labelled (held (pos 9)) 8) sample)
+  pub fired : ending (Rules.fire small-book true running here 1 10 (key-of (pos 1) (pos 2)) (labelled (held (pos 9)) 8) sample)
       ≡ went (changed 16 6 2 ∷ said 41 (pos 100) ∷ changed 16 2 5 ∷ said 44 (pos 99) ∷ []) tt
   -- ---- rights: the named user's named set gains or loses the region's places, and keeps its others; no other set changes
-  pub grants-read : map (Rules.granted small 3 1 1 (sample .rights) .read) (2 ∷ 3 ∷ []) ≡ (1028 ∷ []) ∷ eight 65288 ∷ []
-  pub grants-read-only : Rules.granted small 3 1 1 (sample .rights) .write 3 ≡ 1025 ∷ []
-  pub grants-write : map (Rules.granted small 3 1 2 (sample .rights) .write) (2 ∷ 3 ∷ []) ≡ (0 ∷ []) ∷ eight 65281 ∷ []
-  pub grants-write-only : Rules.granted small 3 1 2 (sample .rights) .read 3 ≡ 2056 ∷ []
-  pub revokes-read : map (Rules.revoked small 3 1 1 (sample .rights) .read) (2 ∷ 3 ∷ []) ≡ (1028 ∷ []) ∷ eight 8 ∷ []
-  pub revokes-read-only : Rules.revoked small 3 1 1 (sample .rights) .write 3 ≡ 1025 ∷ []
-  pub revokes-write : map (Rules.revoked small 3 1 2 (sample .rights) .write) (2 ∷ 3 ∷ []) ≡ (0 ∷ []) ∷ eight 1 ∷ []
-  pub revokes-write-only : Rules.revoked small 3 1 2 (sample .rights) .read 3 ≡ 2056 ∷ []
+  pub grants-read : map (Rules.granted small-book 3 1 1 (sample .rights) .read) (2 ∷ 3 ∷ []) ≡ (1028 ∷ []) ∷ eight 65288 ∷ []
+  pub grants-read-only : Rules.granted small-book 3 1 1 (sample .rights) .write 3 ≡ 1025 ∷ []
+  pub grants-write : map (Rules.granted small-book 3 1 2 (sample .rights) .write) (2 ∷ 3 ∷ []) ≡ (0 ∷ []) ∷ eight 65281 ∷ []
+  pub grants-write-only : Rules.granted small-book 3 1 2 (sample .rights) .read 3 ≡ 2056 ∷ []
+  pub revokes-read : map (Rules.revoked small-book 3 1 1 (sample .rights) .read) (2 ∷ 3 ∷ []) ≡ (1028 ∷ []) ∷ eight 8 ∷ []
+  pub revokes-read-only : Rules.revoked small-book 3 1 1 (sample .rights) .write 3 ≡ 1025 ∷ []
+  pub revokes-write : map (Rules.revoked small-book 3 1 2 (sample .rights) .write) (2 ∷ 3 ∷ []) ≡ (0 ∷ []) ∷ eight 1 ∷ []
+  pub revokes-write-only : Rules.revoked small-book 3 1 2 (sample .rights) .read 3 ≡ 2056 ∷ []
   -- ---- commands, by a command on node 9 of user 3 in the context of place 4
   pub skips : ending (does here syntax.skip sample) ≡ went [] tt
   -- 17: the label is context plus expression, and not the old one; 25 where the old one lacks the context
@@ -227,11 +227,11 @@ pub record RuleClauses : Type 0 where
   pub raises-unlabelled : final (does-unlabelled here (syntax.raise 4 1) sample) .vars 4 ≡ record { val = pos 14; lab = eight 65312 }
   pub raises-not : ending (does here (syntax.raise 4 1) sample) ≡ halted [] 25 9 (16 ∷ [])
   -- ---- nodes and programs
-  pub costs : map (Rules.cost-at small) (0 ∷ 1 ∷ 2 ∷ []) ≡ 1 ∷ 4 ∷ 1 ∷ []
+  pub costs : map (Rules.cost-at small-book) (0 ∷ 1 ∷ 2 ∷ []) ≡ 1 ∷ 4 ∷ 1 ∷ []
   -- with no fuel, 21 on the node; else its cost is paid, its children run with less fuel, and its rule is applied
-  pub out-of-fuel : (ending (Rules.eval small 0 1 sample) ≡ halted [] 21 1 (eight 0)) × (ending (Rules.exec small true 0 here 2 sample) ≡ halted [] 21 2 (eight 0))
-  pub evaluates : (ending (Rules.eval small 1 0 sample) ≡ went [] (lit (pos 7))) × (counts (final (Rules.eval small 1 0 sample)) ≡ 99 ∷ 5 ∷ [])
-  pub evaluates-children : (ending (Rules.eval small 1 1 sample) ≡ halted [] 21 0 (eight 0)) × (counts (final (Rules.eval small 1 1 sample)) ≡ 96 ∷ 5 ∷ [])
-  pub evaluates-not : ending (Rules.eval small 9 1 (having 3 5)) ≡ halted [] 21 1 (eight 0)
-  pub executes : (ending (Rules.exec small true 1 here 2 sample) ≡ went [] tt) × (counts (final (Rules.exec small true 1 here 2 sample)) ≡ 99 ∷ 5 ∷ [])
-  pub executes-not : ending (Rules.exec small true 9 here 2 (having 0 5)) ≡ halted [] 21 2 (eight 0)
+  pub out-of-fuel : (ending (Rules.eval small-book 0 1 sample) ≡ halted [] 21 1 (eight 0)) × (ending (Rules.exec small-book true 0 here 2 sample) ≡ halted [] 21 2 (eight 0))
+  pub evaluates : (ending (Rules.eval small-book 1 0 sample) ≡ went [] (lit (pos 7))) × (counts (final (Rules.eval small-book 1 0 sample)) ≡ 99 ∷ 5 ∷ [])
+  pub evaluates-children : (ending (Rules.eval small-book 1 1 sample) ≡ halted [] 21 0 (eight 0)) × (counts (final (Rules.eval small-book 1 1 sample)) ≡ 96 ∷ 5 ∷ [])
+  pub evaluates-not : ending (Rules.eval small-book 9 1 (having 3 5)) ≡ halted [] 21 1 (eight 0)
+  pub executes : (ending (Rules.exec small-book true 1 here 2 sample) ≡ went [] tt) × (counts (final (Rules.exec small-book true 1 here 2 sample)) ≡ 99 ∷ 5 ∷ [])
+  pub executes-not : ending (Rules.exec small-book true 9 here 2 (having 0 5)) ≡ halted [] 21 2 (eight 0)

@@ -10,9 +10,9 @@ use Rattle.monitor.specs.Samples.{went, halted, ending, final, counts, l
 
 -- ---- runs to put together: each tells what was left of the budget, and uses up some
 
--- gives 7
-abbrev pub one : M ℕ
-one = λ s. done (said 1 (pos (s .left)) ∷ []) 7 (spend 1 s)
+-- the run that gives 7
+abbrev pub giving-seven : M ℕ
+giving-seven = λ s. done (said 1 (pos (s .left)) ∷ []) 7 (spend 1 s)
 
 -- stops with 22 on node 3
 abbrev pub halting : M ℕ
@@ -45,11 +45,11 @@ pub record RunClauses : Type 0 where
   pub holding : held (negsuc 4) ≡ record { present = true; amount = negsuc 4 }
   pub not-there : absent ≡ record { present = false; amount = pos 0 }
   -- records of one run come before those of the next, which starts from the state that the one left
-  pub in-turn : ending (next (one sample) (λ n. telling n)) ≡ went (said 1 (pos 100) ∷ said 7 (pos 99) ∷ []) tt
-  pub in-turn-left : counts (final (next (one sample) (λ n. telling n))) ≡ 98 ∷ 5 ∷ []
+  pub in-turn : ending (next (giving-seven sample) (λ n. telling n)) ≡ went (said 1 (pos 100) ∷ said 7 (pos 99) ∷ []) tt
+  pub in-turn-left : counts (final (next (giving-seven sample) (λ n. telling n))) ≡ 98 ∷ 5 ∷ []
   -- a stop ends the run: what was told stays, and nothing follows
-  pub stop-last : ending (next (one sample) (λ n. halting)) ≡ halted (said 1 (pos 100) ∷ said 2 (pos 99) ∷ []) 22 3 (4 ∷ [])
-  pub stop-last-left : counts (final (next (one sample) (λ n. halting))) ≡ 97 ∷ 5 ∷ []
+  pub stop-last : ending (next (giving-seven sample) (λ n. halting)) ≡ halted (said 1 (pos 100) ∷ said 2 (pos 99) ∷ []) 22 3 (4 ∷ [])
+  pub stop-last-left : counts (final (next (giving-seven sample) (λ n. halting))) ≡ 97 ∷ 5 ∷ []
   pub stop-first : ending (next (halting sample) (λ n. telling n)) ≡ halted (said 2 (pos 100) ∷ []) 22 3 (4 ∷ [])
   pub stop-first-left : counts (final (next (halting sample) (λ n. telling n))) ≡ 98 ∷ 5 ∷ []
   -- one after another

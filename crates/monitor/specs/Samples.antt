@@ -69,8 +69,8 @@ having left room = record { cells = sample .cells; vars = sample .vars; rights =
 -- ---- a book
 
 -- Places 4 and 5 of table 0 are public; regions 1 and 2 are owner 1 of table 0, which is places 8 to 15, and table 1.
-abbrev pub small : Book
-small = record {
+abbrev pub small-book : Book
+small-book = record {
   cells = cell 0 0 3 (pos 33) ∷ cell 1 2 3 (pos 44) ∷ [];
   regions = record { table = 0; owner-first = 0; owner-last = 0; line-first = 4; line-last = 5; zeros = 0 } ∷ owner-region 0 1 ∷ table-region 1 ∷ [];
   rights = public 0 ∷ may-read 5 1 ∷ may-write 6 0 ∷ [];
