@@ -1,101 +1,81 @@
 // Commands that write variables: assignment and raise.
-use machine::Ran;
+use machine::Outcome;
+use machine::Run;
 use machine::Script;
+use machine::Sets;
 use machine::Value;
 ghost use mathlib.Core.Path.{_≡_};
-ghost use Prim.Native.Nat.{_+_, _*_, _≤_, _<_};
+ghost use mathlib.Core.List.{List};
+ghost use Prim.Native.Nat.{ℕ, _≤_};
+ghost use lib.IntN.{ℤ};
 ghost use lib.ListN.{length};
-ghost use Rattle.book.specs.Layout.{decode};
 ghost use Rattle.book.specs.Kinds.{command};
 ghost use Rattle.book.specs.Refusals.{node-at};
-ghost use Rattle.monitor.specs.Run.{update};
-ghost use Rattle.machine.specs.Ready.{Ready, Node};
-ghost use Rattle.machine.specs.Store.{vars-of};
-ghost use Rattle.machine.specs.Promises.{Assigns, Raises};
-
-// Variable `p` becomes an amount with a label.
-fn store_variable(vars: &mut [i32], tags: &mut [u64], p: usize, amount: i32, label: [u64; 8])
-    requires { ⌜ (p < length (now vars)) × (8 * p + 8 ≤ length (now tags)) ⌝ }
-    ensures { λ _. ⌜ vars-of (now (vars .exit)) (now (tags .exit))
-        ≡ update (vars-of (now (vars .entry)) (now (tags .entry))) p (record { val = amount; lab = label }) ⌝ }
-{
-    vars[p] = amount;
-    labels::set_label(tags, p, label);
-}
+ghost use Rattle.machine.specs.Script.{script-of, Runnable, Node};
+ghost use Rattle.machine.specs.Store.{used-of, vars-of, store};
+ghost use Rattle.machine.specs.Promises.{Does, Commands, Who};
 
 // 17: variable p becomes a. Stop 25 where the context is not within the variable's old label.
 pub fn assign(
-    file: &Script,
-    nodes: usize,
-    costs: &[u32; 27],
+    code: &Script,
     n: usize,
-    left: u32,
     ctx: &[u64; 8],
     vars: &mut [i32; 16],
-    tags: &mut [u64; 128],
-    amounts: &[i32; 512],
-    presence: &[u64; 8],
-    labels: &[u64; 4096],
-    used: usize,
-) -> Ran
-    requires { ⌜ Ready (now file) nodes (now costs) × Node command (now file) n × (node-at (decode (now file)) n .kind ≡ 17) ⌝ }
-    ensures { λ r. ⌜ Assigns (now (file .entry)) (now (ctx .entry)) n left used (now (amounts .entry)) (now (presence .entry)) (now (labels .entry))
-        (vars-of (now (vars .entry)) (now (tags .entry))) r (vars-of (now (vars .exit)) (now (tags .exit))) ⌝ }
+    tags: &mut [[u64; 8]; 16],
+    cells: &[i32; 512],
+    sets: &Sets,
+    run: &mut Run,
+) -> Outcome
+    requires { ⌜ Runnable (now code) × Node command (script-of (now code)) n × (node-at (script-of (now code)) n .kind ≡ 17) ⌝ }
+    ensures { λ r. ⌜ ((who : Who) (trace : List ℕ) → used-of (now (run .entry)) ≤ length trace → Does (Commands (now (code .entry)) (now (ctx .entry)) who n)
+        (vars-of (now (vars .entry)) (now (tags .entry))) (store (now (cells .entry)) (now (sets .entry)) (now (run .entry)) trace) r
+        (vars-of (now (vars .exit)) (now (tags .exit))) (store (now (cells .entry)) (now (sets .entry)) (now (run .exit)) trace)) ⌝ }
 {
-    let at = nodes + 16 * n;
-    let value = expressions::eval(
-        file,
-        nodes,
-        costs,
-        numbers::u16_at(file, at + 2),
-        left,
-        vars,
-        tags,
-        amounts,
-        presence,
-        labels,
-    );
-    let answer = value.answer;
-    let Value::Known(amount) = answer else {
-        return machine::failed(answer, value.left, used);
+    let values: &[i32] = vars;
+    let labels: &[[u64; 8]] = tags;
+    let at = 16 * n;
+    let a = numbers::u16_at(code, at + 2);
+    let mut label = *ctx;
+    let Value::Known(amount) = expressions::eval(code, a, vars, tags, cells, sets, run, &mut label)
+    else {
+        return Outcome::Stopped;
     };
-    let label = value.label;
-    let p = numbers::byte_at(file, at + 1);
+    let p = numbers::byte_at(code, at + 1);
     let context = *ctx;
-    let old = labels::label_at(tags, p);
+    let old = tags[p];
     let fine = places::within(context, old);
     if !fine {
-        return machine::stopped(25, n, value.left, used);
+        return machine::stop(run, 25, n);
     }
-    store_variable(vars, tags, p, amount, places::union(context, label));
-    machine::finished(value.left, used)
+    vars[p] = amount;
+    tags[p] = label;
+    Outcome::Done
 }
 
 // 26: variable p is raised by region a, under the same test.
 pub fn raise(
-    file: &Script,
-    nodes: usize,
-    costs: &[u32; 27],
+    code: &Script,
     n: usize,
-    left: u32,
     ctx: &[u64; 8],
-    vars: &[i32; 16],
-    tags: &mut [u64; 128],
-    used: usize,
-) -> Ran
-    requires { ⌜ Ready (now file) nodes (now costs) × Node command (now file) n × (node-at (decode (now file)) n .kind ≡ 26) ⌝ }
-    ensures { λ r. ⌜ Raises (now (file .entry)) (now (ctx .entry)) n left used
-        (vars-of (now (vars .entry)) (now (tags .entry))) r (vars-of (now (vars .entry)) (now (tags .exit))) ⌝ }
+    tags: &mut [[u64; 8]; 16],
+    run: &mut Run,
+) -> Outcome
+    requires { ⌜ Runnable (now code) × Node command (script-of (now code)) n × (node-at (script-of (now code)) n .kind ≡ 26) ⌝ }
+    ensures { λ r. ⌜ ((who : Who) (vars cells : List ℤ) (sets : List (List ℕ)) (trace : List ℕ) → used-of (now (run .entry)) ≤ length trace
+        → Does (Commands (now (code .entry)) (now (ctx .entry)) who n)
+        (vars-of vars (now (tags .entry))) (store cells sets (now (run .entry)) trace) r
+        (vars-of vars (now (tags .exit))) (store cells sets (now (run .exit)) trace)) ⌝ }
 {
-    let at = nodes + 16 * n;
-    let p = numbers::byte_at(file, at + 1);
+    let labels: &[[u64; 8]] = tags;
+    let at = 16 * n;
+    let p = numbers::byte_at(code, at + 1);
     let context = *ctx;
-    let old = labels::label_at(tags, p);
+    let old = tags[p];
     let inside = places::within(context, old);
     if !inside {
-        return machine::stopped(25, n, left, used);
+        return machine::stop(run, 25, n);
     }
-    let region = machine::region_places(file, numbers::u16_at(file, at + 2));
-    labels::set_label(tags, p, places::union(old, region));
-    machine::finished(left, used)
+    let region = machine::region_places(code, numbers::u16_at(code, at + 2));
+    tags[p] = places::union(old, region);
+    Outcome::Done
 }

@@ -22,9 +22,11 @@ fn mixed_sets(digest: u32, sets: [[u64; 8]; 8]) -> u32 {
 fn digest_of_rights(file: &[u8]) -> u32 {
     match reader::inspect(file) {
         book::Verdict::Accepted => {
-            let public = rights::public_set(file);
-            let read = rights::right_sets(file, 1);
-            let write = rights::right_sets(file, 2);
+            let mut code = [0u8; 17366];
+            start::copy_script(file, &mut code);
+            let public = rights::public_set(&code);
+            let read = rights::right_sets(&code, 1);
+            let write = rights::right_sets(&code, 2);
             mixed_sets(mixed_sets(mixed_set(1, public), read), write)
         }
         book::Verdict::Refused(_, _) => 0,

@@ -1,131 +1,134 @@
 -- The turns of a list of commands: the first half of a sequence is entered, and its second half is the next turn. Assumes nothing.
-use mathlib.Core.Path.{_≡_, refl, sym, ap, _∙_}
-use mathlib.Core.List.{List}
-use mathlib.Core.Bool.{Bool, true, false, cond, false≢true}
+use mathlib.Core.Path.{_≡_, refl, sym, ap}
+use mathlib.Core.List.{List, append-nil}
+use mathlib.Core.Bool.{Bool, true, false, cond}
 use Prim.Native.Nat.{ℕ, _+_, _*_, _≤_, _<_}
 use native.Mathlib.Omega.{arith}
 use lib.Dec.{eqb}
 use lib.IntN.{ℤ}
-use lib.ListN.{length, getD}
+use lib.ListN.{length}
 use borrow.Author.Tests.{eq-eqb, ne-eqb}
-use Rattle.book.specs.Bytes.{le16}
 use Rattle.book.specs.Records.{NodeRecord}
-use Rattle.book.specs.Layout.{decode}
-use Rattle.book.specs.Kinds.{command}
+use Rattle.book.specs.Kinds as kinds
 use Rattle.book.specs.Refusals.{node-at}
 use Rattle.monitor.specs.Labelled.{Label, Lab}
-use Rattle.monitor.specs.Rules.{cost-at}
-use Rattle.machine.specs.Ready.{script-of, Ready, Node}
-use Rattle.machine.specs.Store.{Store}
-use Rattle.machine.specs.Promises.{ran, Does, Enters}
+use Rattle.monitor.specs.Run.{Rec, Out, done, stop, M, after, next, _>>_, ret}
+use Rattle.monitor.specs.Syntax.{seq, cmd-of}
+use Rattle.monitor.specs.Rules.{cost-at, command}
+use Rattle.machine.specs.Script.{script-of, Runnable, Node}
+use Rattle.machine.specs.Store.{left-of, used-of, Store}
+use Rattle.machine.specs.Promises.{Paid, ended, Does, Enters, Commands, Who}
+use Rattle.machine.specs.declared.Outcome.{Outcome}
 use Rattle.machine.specs.declared.Outcome.the-variants.{Done, Stopped}
-use Rattle.machine.specs.declared.Ran.{Ran}
-use Rattle.machine.proofs.Nodes.{then-a, then-b}
-use Rattle.commands.specs.declared.Head.{Head}
-use Rattle.commands.specs.Parts.{Heads, unpaid, list, single}
-use Rattle.commands.proofs.Lents.{command-read, cost-known, child-node}
-use Rattle.commands.proofs.Steps.{same-trace, entry-costs, enters, enters-not}
-use Rattle.commands.proofs.Orders.{sequence-stops, sequence-goes}
+use Rattle.machine.proofs.Nodes.{command-is, then-a, then-b}
+use Rattle.machine.proofs.Runs.{with-run, does-as, sets-vars, then-stops, then-goes}
+use Rattle.commands.proofs.Steps.{Keeps, does-keeps, keeps-both, keeps-itself, Rest, answers, paid-less, paid-keeps, enters}
 
--- ---- what a command counts before it is entered
+-- What a command counts before it is executed; a unit of the budget counts 16. A sequence pays before its first half is entered; any other
+-- command is entered with the budget as it is.
+pub weight : List ℕ → ℕ → List ℕ → ℕ
+weight code n run = cond (eqb (node-at (script-of code) n .kind) 18) (16 * left-of run) (16 * left-of run + 2)
 
--- A unit of the budget counts 16. A sequence pays before its first half is entered; any other command is entered with the budget as it is.
-pub weight : List ℕ → ℕ → ℕ → ℕ
-weight file n left = cond (eqb (node-at (decode file) n .kind) 18) (16 * left) (16 * left + 2)
-
-module _ (file : List ℕ) (n left : ℕ) where
-  pub weight-most : weight file n left ≤ 16 * left + 2
+module _ (code : List ℕ) (n : ℕ) (run : List ℕ) where
+  weight-most : weight code n run ≤ 16 * left-of run + 2
   unfolding weight
-  weight-most = go (eqb (node-at (decode file) n .kind) 18)
+  weight-most = go (eqb (node-at (script-of code) n .kind) 18)
     where
-      go : (y : Bool) → cond y (16 * left) (16 * left + 2) ≤ 16 * left + 2
+      go : (y : Bool) → cond y (16 * left-of run) (16 * left-of run + 2) ≤ 16 * left-of run + 2
       go true = omega arith
       go false = omega arith
 
-  pub weight-list : node-at (decode file) n .kind ≡ 18 → weight file n left ≡ 16 * left
+  pub weight-list : node-at (script-of code) n .kind ≡ 18 → weight code n run ≡ 16 * left-of run
   unfolding weight
-  weight-list e = ap (λ (y : Bool). cond y (16 * left) (16 * left + 2)) (eq-eqb _ 18 e)
+  weight-list e = rw (eq-eqb _ 18 e)
 
-  weight-single : (node-at (decode file) n .kind ≡ 18 → ⊥) → weight file n left ≡ 16 * left + 2
+  weight-single : (node-at (script-of code) n .kind ≡ 18 → ⊥) → weight code n run ≡ 16 * left-of run + 2
   unfolding weight
-  weight-single e = ap (λ (y : Bool). cond y (16 * left) (16 * left + 2)) (ne-eqb _ 18 e)
+  weight-single e = rw (ne-eqb _ 18 e)
 
--- ---- the turns
+-- of a store from which less or as much is left
+pub weight-kept : (code : List ℕ) (n : ℕ) {x x' : Store} → Keeps x x' → weight code n (x' .run) ≤ 16 * left-of (x .run) + 2
+weight-kept code n {x' = x'} k = omega (arith, weight-most code n (x' .run), k .within)
 
--- the invariant of the loop: what command m does from here on is the rest of what n does
-pub record Chain (file : List ℕ) (ctx : Label) (user above n : ℕ) (vars : ℕ → Lab ℤ) (x : Store) (left used m : ℕ) (vars' : ℕ → Lab ℤ) (x' : Store)
-    (left' used' : ℕ) : Type 0 where
-  pub node : Node command file m
-  pub ends : {r : Ran} {vars'' : ℕ → Lab ℤ} {x'' : Store} → Does (Enters file ctx user above m) vars' x' left' used' r vars'' x''
-      → Does (Enters file ctx user above n) vars x left used r vars'' x''
-  pub same : length (x' .trace) ≡ length (x .trace)
-  pub fits : used' ≤ length (x .trace)
-  pub within : weight file m left' ≤ weight file n left
+-- nothing follows
+then-nothing : (o : Out (Unit {0})) → next o (λ a. ret tt) ≡ o
+unfolding next after
+then-nothing (done records a s) = ap (λ (r : List Rec). done r tt s) (append-nil records)
+then-nothing (stop records h s) = refl
 
-module _ (file : List ℕ) (ctx : Label) (user above n : ℕ) {nodes : ℕ} {costs : List ℕ} (ready : Ready file nodes costs)
-    {vars : ℕ → Lab ℤ} {x : Store} {left used m : ℕ} {vars' : ℕ → Lab ℤ} {x' : Store} {left' used' : ℕ}
-    (c : Chain file ctx user above n vars x left used m vars' x' left' used') where
+-- the invariant: what command m does from here on is the rest of what n does
+pub record Chain (code : List ℕ) (ctx : Label) (who : Who) (n : ℕ) (vars : ℕ → Lab ℤ) (x : Store) (m : ℕ) (vars' : ℕ → Lab ℤ) (x' : Store) : Type 0 where
+  pub node : Node kinds.command (script-of code) m
+  pub rest : Rest (Enters code ctx who n) vars x (Enters code ctx who m) vars' x'
+  pub within : weight code m (x' .run) ≤ weight code n (x .run)
+
+module _ (code : List ℕ) (ctx : Label) (who : Who) (n : ℕ) where
   abbrev node : NodeRecord
-  node = node-at (decode file) m
+  node = node-at (script-of code) n
 
-  abbrev cost : ℕ
-  cost = getD costs 18 0
+  -- what follows the command that is entered: the second half, where there is one
+  abbrev pub follows : Bool → ℕ → M (Unit {0})
+  follows more fuel = cond more (Enters code ctx who (node .b) fuel) (ret tt)
 
-  price : node .kind ≡ 18 → cost ≡ cost-at (script-of file) m
-  price k = cost-known 18 ready (c .node) (sym k)
+  -- a turn: this command is entered, and what follows it is done
+  pub record Head (vars : ℕ → Lab ℤ) (x : Store) (more : Bool) (m : ℕ) (x' : Store) : Type 0 where
+    pub node-is : Node kinds.command (script-of code) m
+    pub keeps : Keeps x x'
+    pub less : 16 * left-of (x' .run) + 1 < weight code n (x .run)
+    pub falls : more ≡ true → left-of (x' .run) < left-of (x .run)
+    pub second : more ≡ true → Node kinds.command (script-of code) (node .b)
+    pub goes : {r : Outcome} {vars' : ℕ → Lab ℤ} {x'' : Store}
+        → Does (λ fuel. Enters code ctx who m fuel >> follows more fuel) vars x' r vars' x'' → Does (Enters code ctx who n) vars x r vars' x''
 
-  -- its cost would pass the budget
-  pub chain-unpaid : {h : Head} {r : Ran} → Heads node m left' cost h → h .fits ≡ false → r ≡ ran (Stopped 21 m) left' used'
-      → Does (Enters file ctx user above n) vars x left used r vars' x'
-  chain-unpaid (unpaid k l) f q = c .ends (enters-not file ctx user above m (price k) l q (omega (arith, c .fits, c .same)))
-  chain-unpaid (list k l) f q = absurd (false≢true (sym f))
-  chain-unpaid (single k) f q = absurd (false≢true (sym f))
+  sequence-is : node .kind ≡ 18 → (fuel : ℕ) → Commands code ctx who n fuel ≡ (Enters code ctx who (node .a) fuel >> Enters code ctx who (node .b) fuel)
+  unfolding command cmd-of
+  sequence-is kind fuel = command-is code ctx who n {y = seq (node .a) (node .b)} (rw kind) fuel
 
-  -- the command that is entered
-  pub head-node : {h : Head} → Heads node m left' cost h → h .fits ≡ true → Node command file (h .command)
-  head-node (unpaid k l) f = absurd (false≢true f)
-  head-node (list k l) f = then-a file (ready .runnable) m (c .node .inside) k .node
-  head-node (single k) f = c .node
+  module _ {vars : ℕ → Lab ℤ} {x : Store} (u : used-of (x .run) ≤ length (x .trace)) where
+    -- of a sequence, once its cost is paid
+    pub head-list : {more : Bool} → more ≡ true → Runnable code → n < length (script-of code .nodes) → node .kind ≡ 18 → {m : ℕ} {run : List ℕ}
+        → m ≡ node .a → Paid (x .run) (cost-at (script-of code) n) run → Head vars x more m (with-run x run)
+    head-list t v h kind e p = record {
+      node-is = rw e (then-a (script-of code) (v .sound) n h kind .node);
+      keeps = paid-keeps code n u p;
+      less = omega (arith, weight-list code n (x .run) kind, paid-less code n p);
+      falls = λ _. paid-less code n p;
+      second = λ _. then-b (script-of code) (v .sound) n h kind .node;
+      goes = λ d. enters code n ctx who p (does-as (sequence-is kind) (rw (t, e) at d));
+    }
 
-  pub head-less : {h : Head} → Heads node m left' cost h → h .fits ≡ true → 16 * h .left + 1 < weight file n left
-  head-less (unpaid k l) f = absurd (false≢true f)
-  head-less (list k l) f = omega (arith, c .within, weight-list file m left' k, entry-costs file ctx user above m (price k))
-  head-less (single k) f = omega (arith, c .within, weight-single file m left' k)
+    -- of any other command
+    pub head-single : {more : Bool} → more ≡ false → Node kinds.command (script-of code) n → (node .kind ≡ 18 → ⊥) → {m : ℕ} → m ≡ n → Head vars x more m x
+    head-single f h kind e = record {
+      node-is = rw e h;
+      keeps = keeps-itself u;
+      less = omega (arith, weight-single code n (x .run) kind);
+      falls = λ t. absurd (let z : _≡_ {A = ℕ} 0 1 = cc in omega arith);
+      second = λ t. absurd (let z : _≡_ {A = ℕ} 0 1 = cc in omega arith);
+      goes = λ d. does-as (λ fuel i s. sym (then-nothing (Enters code ctx who n fuel s)) i) (rw (f, e) at d);
+    }
 
-  module _ {r : Ran} {vars'' : ℕ → Lab ℤ} {x'' : Store} where
-    -- what it does, where it stops and where nothing follows
-    pub chain-stops : {h : Head} {number i : ℕ} → Heads node m left' cost h → h .fits ≡ true
-        → Does (Enters file ctx user above (h .command)) vars' x' (h .left) used' r vars'' x'' → r .outcome ≡ Stopped number i
-        → Does (Enters file ctx user above n) vars x left used r vars'' x''
-    chain-stops (unpaid k l) f d e = absurd (false≢true f)
-    chain-stops (list k l) f d e = c .ends (enters file ctx user above m (price k) l (sequence-stops file ctx user above m k refl d e))
-    chain-stops (single k) f d e = c .ends d
+module _ {code : List ℕ} {ctx : Label} {who : Who} {n m : ℕ} {vars vars' : ℕ → Lab ℤ} {x x' : Store} (c : Chain code ctx who n vars x m vars' x')
+    {more : Bool} {k : ℕ} {y : Store} (h : Head code ctx who m vars' x' more k y) where
+  -- the command stops
+  pub chain-stops : {r : Outcome} {vars'' : ℕ → Lab ℤ} {x'' : Store} → Does (Enters code ctx who k) vars' y r vars'' x'' → r ≡ Stopped
+      → Does (Enters code ctx who n) vars x Stopped vars'' x''
+  chain-stops d o = c .rest .ends (h .goes (answers (sym o) (then-stops (follows code ctx who m more) d o)))
 
-    pub chain-ends : {h : Head} → Heads node m left' cost h → h .more ≡ false
-        → Does (Enters file ctx user above (h .command)) vars' x' (h .left) used' r vars'' x''
-        → Does (Enters file ctx user above n) vars x left used r vars'' x''
-    chain-ends (unpaid k l) f d = absurd (false≢true (sym f))
-    chain-ends (list k l) f d = absurd (false≢true (sym f))
-    chain-ends (single k) f d = c .ends d
+  -- it is done, and nothing follows
+  pub chain-ends : more ≡ false → {r : Outcome} {vars'' : ℕ → Lab ℤ} {x'' : Store} → Does (Enters code ctx who k) vars' y r vars'' x'' → r ≡ Done
+      → Does (Enters code ctx who n) vars x Done vars'' x''
+  unfolding ended
+  chain-ends f d o = c .rest .ends (h .goes (then-goes d o (rw f (sets-vars (does-keeps d .fits) (λ fuel _. refl)))))
 
-    -- the second half is the next turn
-    pub chain-less : {h : Head} → Heads node m left' cost h → h .fits ≡ true → h .more ≡ true
-        → Does (Enters file ctx user above (h .command)) vars' x' (h .left) used' r vars'' x'' → r .left < left'
-    chain-less (unpaid k l) f g d = absurd (false≢true f)
-    chain-less (list k l) f g d = omega (arith, d .within, entry-costs file ctx user above m (price k))
-    chain-less (single k) f g d = absurd (false≢true g)
-
-    pub chain-turns : {h : Head} {b : ℕ} → Heads node m left' cost h → h .fits ≡ true → h .more ≡ true
-        → Does (Enters file ctx user above (h .command)) vars' x' (h .left) used' r vars'' x'' → r .outcome ≡ Done → b ≡ le16 file (nodes + 16 * m + 4)
-        → Chain file ctx user above n vars x left used b vars'' x'' (r .left) (r .used)
-    chain-turns (unpaid k l) f g d e eb = absurd (false≢true f)
-    chain-turns {b = b} (list k l) f g d e eb =
-        let b-is : b ≡ node .b = eb ∙ command-read ready (c .node) .b in
-        record {
-          node = child-node b-is (then-b file (ready .runnable) m (c .node .inside) k);
-          ends = λ d'. c .ends (enters file ctx user above m (price k) l (sequence-goes file ctx user above m k refl d e b-is d'));
-          same = same-trace d ∙ c .same;
-          fits = omega (arith, d .fits, c .same);
-          within = omega (arith, c .within, d .within, weight-list file m left' k, weight-most file b (r .left), entry-costs file ctx user above m (price k));
-        }
-    chain-turns (single k) f g d e eb = absurd (false≢true g)
+  -- the second half is the next turn
+  pub chain-turns : more ≡ true → {r : Outcome} {vars'' : ℕ → Lab ℤ} {x'' : Store} → Does (Enters code ctx who k) vars' y r vars'' x'' → r ≡ Done
+      → {b : ℕ} → b ≡ node-at (script-of code) m .b → Chain code ctx who n vars x b vars'' x''
+  chain-turns t {x'' = x''} d o {b} e = record {
+    node = rw e (h .second t);
+    rest = record {
+      keeps = keeps-both (c .rest .keeps) (keeps-both (h .keeps) (does-keeps d));
+      ends = λ g. c .rest .ends (h .goes (then-goes d o (rw t (rw e at g))));
+    };
+    within = omega (arith, c .within, h .less, d .within, weight-most code b (x'' .run));
+  }

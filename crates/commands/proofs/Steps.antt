@@ -1,98 +1,114 @@
--- The trace of one run after another, and the entry of a node: its cost is paid, or it stops with 21. Assumes nothing.
-use mathlib.Core.Path.{_≡_, refl, sym, ap, _∙_, subst}
-use mathlib.Core.List.{List, [], _++_}
-use Prim.Native.Nat.{ℕ, zero, suc, pred, _+_, _-_, _*_, _≤_, _<_}
+-- What a run keeps of the memory that it is lent, and the entry of a node: its cost is paid, or it stops with 21. Assumes nothing.
+use mathlib.Core.Path.{_≡_, refl, ap, _∙_}
+use mathlib.Core.List.{List, []}
+use Prim.Native.Nat.{ℕ, zero, suc, _≤_, _<_}
 use native.Mathlib.Omega.{arith}
 use lib.IntN.{ℤ}
 use lib.ListN.{length}
+use Rattle.book.specs.Kinds.{cost-of}
 use Rattle.book.specs.Refusals.{node-at}
-use Rattle.monitor.specs.Labelled.{Label, bottom, Lab}
-use Rattle.monitor.specs.Run.{State, Rec, stop, M, next, spend, pay}
-use Rattle.monitor.specs.Rules.{cost-at, exec}
-use Rattle.machine.specs.Ready.{script-of}
-use Rattle.machine.specs.Store.{Store, state, with-records}
-use Rattle.machine.specs.Promises.{ran, ended, Does, DoesAside, Enters, Commands}
-use Rattle.machine.specs.declared.Outcome.the-variants.{Stopped}
-use Rattle.machine.specs.declared.Ran.{Ran}
-use Rattle.machine.proofs.Traces.{with-length, with-both}
 use Rattle.book.proofs.Costs.{cost-positive}
-use Rattle.machine.proofs.Runs.{pay-passes, pay-fails, after-none, quietly}
+use Rattle.monitor.specs.Labelled.{Label, bottom, Lab}
+use Rattle.monitor.specs.Run.{stop, M, next}
+use Rattle.monitor.specs.Rules.{cost-at, exec}
+use Rattle.machine.specs.Script.{script-of}
+use Rattle.machine.specs.Store.{row-at, public-row, left-of, used-of, Store, state, with-records, Lent}
+use Rattle.machine.specs.Promises.{Paid, Short, Pays, ended, Does, Enters, Commands, Who}
+use Rattle.machine.specs.declared.Outcome.{Outcome}
+use Rattle.machine.specs.declared.Outcome.the-variants.{Stopped}
+use Rattle.machine.proofs.Traces.{with-length}
+use Rattle.machine.proofs.Runs.{after-none, with-run, pay-passes, pay-fails, stops-on}
 
--- ---- the trace
+-- ---- what is kept
 
--- one lot of records after another
-pub joined : (t : List ℕ) (used : ℕ) (a b : List Rec) {t' t'' : List ℕ} {used' : ℕ} → used ≤ length t
-    → t' ≡ with-records t used a → used' ≡ used + 8 * length a → t'' ≡ with-records t' used' b → t'' ≡ with-records t used (a ++ b)
-joined t used a b h e u e' = cc (with-both t used h a b)
+pub record Keeps (x x' : Store) : Type 0 where
+  pub same : length (x' .trace) ≡ length (x .trace)
+  pub fits : used-of (x' .run) ≤ length (x' .trace)
+  pub within : left-of (x' .run) ≤ left-of (x .run)
+  pub public-same : row-at (x' .sets) public-row ≡ row-at (x .sets) public-row
 
-pub same-length : (t : List ℕ) (used : ℕ) (a : List Rec) {t' : List ℕ} {used' : ℕ}
-    → t' ≡ with-records t used a → used' ≡ used + 8 * length a → used' ≤ length t → length t' ≡ length t
-same-length t used a e u h = ap length e ∙ with-length t used (omega arith) a (omega arith)
+pub does-keeps : {m : ℕ → M (Unit {0})} {vars vars' : ℕ → Lab ℤ} {x x' : Store} {r : Outcome} → Does m vars x r vars' x' → Keeps x x'
+does-keeps {x = x} {x' = x'} d =
+    let long : length (x' .trace) ≡ length (x .trace) =
+    ap length (d .trace-is) ∙ with-length (x .trace) (used-of (x .run)) (omega (arith, d .used-is, d .fits)) (d .records) (omega (arith, d .used-is, d .fits)) in
+    record { same = long; fits = omega (arith, d .fits); within = d .within; public-same = d .public-same }
 
--- a run keeps its length
-pub same-trace : {m : ℕ → M (Unit {0})} {vars vars' : ℕ → Lab ℤ} {x x' : Store} {left used : ℕ} {r : Ran}
-    → Does m vars x left used r vars' x' → length (x' .trace) ≡ length (x .trace)
-same-trace {x = x} {used = used} d = same-length (x .trace) used (d .records) (d .trace-is) (d .used-is) (d .fits)
+-- other numbers of the run, with no more left
+pub run-keeps : {x : Store} {run : List ℕ} → used-of (x .run) ≤ length (x .trace) → left-of run ≤ left-of (x .run) → used-of run ≡ used-of (x .run)
+    → Keeps x (with-run x run)
+run-keeps u w e = record { same = refl; fits = omega (arith, e, u); within = w; public-same = refl }
+
+pub keeps-both : {x x' x'' : Store} → Keeps x x' → Keeps x' x'' → Keeps x x''
+keeps-both k l = record { same = l .same ∙ k .same; fits = l .fits; within = omega (arith, k .within, l .within); public-same = l .public-same ∙ k .public-same }
+
+-- a store by itself
+pub keeps-itself : {x : Store} → used-of (x .run) ≤ length (x .trace) → Keeps x x
+keeps-itself u = record { same = refl; fits = u; within = omega arith; public-same = refl }
+
+-- so it can be lent on
+pub lent-on : {code : List ℕ} {x x' : Store} → Lent code (x .sets) (x .run) (x .trace) → Keeps x x' → Lent code (x' .sets) (x' .run) (x' .trace)
+lent-on l k = record { runnable = l .runnable; public-is = k .public-same ∙ l .public-is; short = omega (arith, l .short, k .same); room = k .fits }
+
+-- ---- the loops' invariant: what m' does from x' on is the rest of what m does from x on
+
+pub record Rest (m : ℕ → M (Unit {0})) (vars : ℕ → Lab ℤ) (x : Store) (m' : ℕ → M (Unit {0})) (vars' : ℕ → Lab ℤ) (x' : Store) : Type 0 where
+  pub keeps : Keeps x x'
+  pub ends : {r : Outcome} {vars'' : ℕ → Lab ℤ} {x'' : Store} → Does m' vars' x' r vars'' x'' → Does m vars x r vars'' x''
+
+pub rest-start : {m : ℕ → M (Unit {0})} {vars : ℕ → Lab ℤ} {x : Store} → used-of (x .run) ≤ length (x .trace) → Rest m vars x m vars x
+rest-start u = record { keeps = keeps-itself u; ends = λ d. d }
+
+pub rest-both : {m m' m'' : ℕ → M (Unit {0})} {vars vars' vars'' : ℕ → Lab ℤ} {x x' x'' : Store}
+    → Rest m vars x m' vars' x' → Rest m' vars' x' m'' vars'' x'' → Rest m vars x m'' vars'' x''
+rest-both r q = record { keeps = keeps-both (r .keeps) (q .keeps); ends = λ d. r .ends (q .ends d) }
 
 -- the same answer by another name
-pub answers : {m : ℕ → M (Unit {0})} {vars vars' : ℕ → Lab ℤ} {x x' : Store} {left used : ℕ} {q r : Ran}
-    → q ≡ r → Does m vars x left used r vars' x' → Does m vars x left used q vars' x'
-answers {m} {vars} {vars'} {x} {x'} {left} {used} e d = subst (λ (a : Ran). Does m vars x left used a vars' x') (sym e) d
-
-pub answers-aside : {m : ℕ → M (Unit {0})} {x x' : Store} {left used : ℕ} {q r : Ran}
-    → q ≡ r → DoesAside m x left used r x' → DoesAside m x left used q x'
-answers-aside {m} {x} {x'} {left} {used} e d = subst (λ (a : Ran). DoesAside m x left used a x') (sym e) d
+pub answers : {m : ℕ → M (Unit {0})} {vars vars' : ℕ → Lab ℤ} {x x' : Store} {q r : Outcome} → q ≡ r → Does m vars x r vars' x' → Does m vars x q vars' x'
+answers e d = rw e d
 
 -- ---- entering a node
 
-entry-passes : (c i : ℕ) (s : State) (k : M (Unit {0})) → c ≤ s .left → next (pay c i s) (λ a. k) ≡ k (spend c s)
-unfolding next
-entry-passes c i s k h = ap (λ o. next o (λ a. k)) (pay-passes c i s h) ∙ after-none (k (spend c s))
+module _ (code : List ℕ) (n : ℕ) where
+  abbrev cost : ℕ
+  cost = cost-at (script-of code) n
 
-entry-fails : (c i : ℕ) (s : State) (k : M (Unit {0}))
-    → s .left < c → next (pay c i s) (λ a. k) ≡ stop [] (record { number = 21; node = i; obstacle = bottom }) s
-unfolding next
-entry-fails c i s k h = ap (λ o. next o (λ a. k)) (pay-fails c i s h)
+  -- the cost that the code looks up by the kind
+  pub priced : {kind : ℕ} {run run' : List ℕ} {r : Outcome} → kind ≡ node-at (script-of code) n .kind → Pays run (cost-of kind) n r run' → Pays run cost n r run'
+  priced e p = rw e at p
 
-module _ (file : List ℕ) (ctx : Label) (user above n : ℕ) {cost : ℕ} (e : cost ≡ cost-at (script-of file) n) where
   -- what is left of the budget falls at each entry
-  pub entry-costs : 1 ≤ cost
-  entry-costs = omega (arith, cost-positive (node-at (script-of file) n .kind))
+  pub paid-less : {run run' : List ℕ} → Paid run cost run' → left-of run' < left-of run
+  paid-less p = omega (arith, p .enough, p .left-is, cost-positive (node-at (script-of code) n .kind))
 
-  -- a node is entered: its cost is paid, and one fuel is spent
-  pub entered : (vars : ℕ → Lab ℤ) (x : Store) (left used fuel : ℕ) → cost ≤ left → left ≤ fuel
-      → Enters file ctx user above n fuel (state vars x left used) ≡ Commands file ctx user above n (pred fuel) (state vars x (left - cost) used)
-  unfolding exec
-  entered vars x left used zero h l = absurd (omega (arith, entry-costs))
-  entered vars x left used (suc fuel) h l =
-      entry-passes (cost-at (script-of file) n) n (state vars x left used) (Commands file ctx user above n fuel) (omega arith)
-      ∙ ap (λ (c : ℕ). Commands file ctx user above n fuel (state vars x (left - c) used)) (sym e)
+  pub paid-keeps : {x : Store} {run : List ℕ} → used-of (x .run) ≤ length (x .trace) → Paid (x .run) cost run → Keeps x (with-run x run)
+  paid-keeps u p = run-keeps u (omega (arith, paid-less p)) (p .used-same)
 
-  -- so one fuel less is enough
-  pub spent : {left rest : ℕ} (fuel : ℕ) → cost ≤ rest → rest ≤ left → left ≤ fuel → rest - cost ≤ pred fuel
-  spent zero h k l = omega (arith, entry-costs)
-  spent (suc fuel) h k l = omega (arith, entry-costs)
-
-  module _ {vars : ℕ → Lab ℤ} {x : Store} {left used : ℕ} where
-    -- the cost is paid, and the command does its work
-    pub enters : {r : Ran} {vars' : ℕ → Lab ℤ} {x' : Store} → cost ≤ left
-        → Does (Commands file ctx user above n) vars x (left - cost) used r vars' x' → Does (Enters file ctx user above n) vars x left used r vars' x'
-    enters h d = record {
+  module _ (ctx : Label) (who : Who) {vars : ℕ → Lab ℤ} {x : Store} {run : List ℕ} where
+    -- the cost is paid, one fuel is spent, and the command does its work
+    pub enters : {r : Outcome} {vars' : ℕ → Lab ℤ} {x' : Store} → Paid (x .run) cost run
+        → Does (Commands code ctx who n) vars (with-run x run) r vars' x' → Does (Enters code ctx who n) vars x r vars' x'
+    unfolding exec next
+    enters {r} {vars'} {x'} p d = record {
       records = d .records;
       obstacle = d .obstacle;
-      is = λ fuel l. entered vars x left used fuel h l ∙ d .is (pred fuel) (spent fuel h (omega arith) l);
-      trace-is = d .trace-is;
-      used-is = d .used-is;
+      is = entered;
+      trace-is = d .trace-is ∙ ap (λ (u : ℕ). with-records (x .trace) u (d .records)) (p .used-same);
+      used-is = omega (arith, d .used-is, p .used-same);
       fits = d .fits;
-      within = omega (arith, d .within);
+      within = omega (arith, d .within, p .left-is);
+      public-same = d .public-same;
     }
+      where
+        entered : (fuel : ℕ) → left-of (x .run) ≤ fuel → Enters code ctx who n fuel (state vars x) ≡ ended r (x' .run) (d .obstacle) (d .records) (state vars' x')
+        entered zero h = absurd (omega (arith, paid-less p, h))
+        entered (suc fuel) h =
+            ap (λ o. next o (λ a. Commands code ctx who n fuel)) (pay-passes cost n vars x p) ∙ after-none _ ∙ d .is fuel (omega (arith, paid-less p, h))
 
     -- the cost would pass the budget
-    pub enters-not : {r : Ran} → left < cost → r ≡ ran (Stopped 21 n) left used → used ≤ length (x .trace)
-        → Does (Enters file ctx user above n) vars x left used r vars x
-    unfolding exec ended
-    enters-not h q u = quietly (Stopped 21 n) bottom left q (omega arith) u (λ fuel l. refused fuel)
+    pub enters-not : Short (x .run) cost n run → used-of (x .run) ≤ length (x .trace) → Does (Enters code ctx who n) vars x Stopped vars (with-run x run)
+    unfolding exec next
+    enters-not s u = stops-on u bottom (s .stops) (λ fuel _. refused fuel)
       where
-        refused : (fuel : ℕ) → Enters file ctx user above n fuel (state vars x left used) ≡ ended (Stopped 21 n) bottom [] (state vars x left used)
+        refused : (fuel : ℕ) → Enters code ctx who n fuel (state vars x) ≡ stop [] (record { number = 21; node = n; obstacle = bottom }) (state vars x)
         refused zero = refl
-        refused (suc fuel) = entry-fails (cost-at (script-of file) n) n (state vars x left used) (Commands file ctx user above n fuel) (omega arith)
+        refused (suc fuel) = ap (λ o. next o (λ a. Commands code ctx who n fuel)) (pay-fails cost n vars x (s .lacks))

@@ -9,7 +9,7 @@ ghost use Rattle.book.specs.Encode.{cell-record, cells-from};
 ghost use Rattle.encoder.specs.Steps.{trailer-like};
 
 // Writes a number of 16 bits, lowest byte first; the other bytes stay.
-fn put_u16(out: &mut [u8], at: usize, number: usize)
+pub fn put_u16(out: &mut [u8], at: usize, number: usize)
     requires { ⌜ at + 2 ≤ length (now out) ⌝ }
     ensures { λ _. ⌜ now (out .exit) ≡ take at (now (out .entry)) ++ two number ++ drop (at + 2) (now (out .entry)) ⌝ }
 {
@@ -18,14 +18,14 @@ fn put_u16(out: &mut [u8], at: usize, number: usize)
 }
 
 // Writes a number of 32 bits, lowest byte first; the other bytes stay.
-fn put_u32(out: &mut [u8], at: usize, number: u32)
+pub fn put_u32(out: &mut [u8], at: usize, bits: u32)
     requires { ⌜ at + 4 ≤ length (now out) ⌝ }
-    ensures { λ _. ⌜ now (out .exit) ≡ take at (now (out .entry)) ++ four number ++ drop (at + 4) (now (out .entry)) ⌝ }
+    ensures { λ _. ⌜ now (out .exit) ≡ take at (now (out .entry)) ++ four bits ++ drop (at + 4) (now (out .entry)) ⌝ }
 {
-    out[at] = (number % 256) as u8;
-    out[at + 1] = (number / 256 % 256) as u8;
-    out[at + 2] = (number / 65536 % 256) as u8;
-    out[at + 3] = (number / 16777216 % 256) as u8;
+    out[at] = (bits % 256) as u8;
+    out[at + 1] = (bits / 256 % 256) as u8;
+    out[at + 2] = (bits / 65536 % 256) as u8;
+    out[at + 3] = (bits / 16777216 % 256) as u8;
 }
 
 // Writes the record of a present cell; the other bytes stay.
@@ -53,7 +53,8 @@ pub fn copy_part(source: &[u8], from: usize, count: usize, out: &mut [u8], at: u
     }
 }
 
-// Writes the records of the present cells from byte 0 on, places rising; answers how many bytes that is. Later bytes stay.
+// Writes the records of the present cells from byte 0 on, places rising; answers how many bytes that is. Later bytes stay. The bit is tested
+// here: a call would copy the set for each place.
 pub fn write_cells(amounts: &[i32], presence: [u64; 8], out: &mut [u8]) -> usize
     requires { ⌜ (length (now amounts) ≡ 512) × (4096 ≤ length (now out)) ⌝ }
     ensures { λ r. ⌜ (r ≡ length (section-bytes cells-format (cells-from (now (amounts .entry)) presence 512 0)))
@@ -62,7 +63,8 @@ pub fn write_cells(amounts: &[i32], presence: [u64; 8], out: &mut [u8]) -> usize
     let mut end: usize = 0;
     let mut place: usize = 0;
     while place < 512 {
-        if places::contains(presence, place) {
+        let word = presence[place / 64];
+        if (word >> (place % 64)) % 2 == 1 {
             put_cell(out, end, place, amounts[place]);
             end += 8;
         }

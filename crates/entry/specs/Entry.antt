@@ -10,9 +10,9 @@ use Rattle.monitor.specs.Run.{State, Rec, Halt, done, stop}
 use Rattle.monitor.specs.Call.{Memory, Result, values, run-book, call-verdict, call}
 use Rattle.monitor.specs.declared.Answer.{Answer}
 use Rattle.monitor.specs.declared.Answer.the-variants.{Stopped, Finished}
+use Rattle.machine.specs.Store.{left-of, used-of, number-of, node-of}
 use Rattle.machine.specs.declared.Outcome.{Outcome}
 use Rattle.machine.specs.declared.Outcome.the-variants as outcome
-use Rattle.machine.specs.declared.Ran.{Ran}
 use Rattle.book.specs.declared.Verdict.the-variants as verdicts
 
 -- lent memory
@@ -43,10 +43,7 @@ pub record ValuesAre (file : List ℕ) (budget : ℕ) (before : Memory) (r : Ans
 abbrev pub RunValues : Type 0
 RunValues = (file : List ℕ) (budget : ℕ) (before after : Memory) (r : Answer) → Runs file budget before r after → ValuesAre file budget before r
 
--- the answer for the end of a run: the cost is what was spent of the budget
-unfoldable pub ended-as : Outcome → ℕ → ℕ → Answer
-ended-as outcome.Done cost used = Finished cost used
-ended-as (outcome.Stopped number node) cost used = Stopped number node cost used
-
-abbrev pub answer-of : Ran → ℕ → Answer
-answer-of ran budget = ended-as (ran .outcome) (budget - ran .left) (ran .used)
+-- the answer for the end of a run, from its numbers: the cost is what was spent of the budget
+unfoldable pub answer-of : Outcome → List ℕ → ℕ → Answer
+answer-of outcome.Done run budget = Finished (budget - left-of run) (used-of run)
+answer-of outcome.Stopped run budget = Stopped (number-of run) (node-of run) (budget - left-of run) (used-of run)

@@ -1,24 +1,27 @@
 // The answer of the entry, from the end of a run, and the paper's numbers for it.
 use machine::Outcome;
-use machine::Ran;
+use machine::Run;
 use monitor::Answer;
 use monitor::Values;
 ghost use mathlib.Core.Path.{_≡_};
 ghost use Prim.Native.Nat.{_≤_};
 ghost use Rattle.monitor.specs.Call.{values};
+ghost use Rattle.machine.specs.Store.{left-of};
 ghost use Rattle.entry.specs.Entry.{answer-of};
 
-// The answer of a run that began with this budget.
-pub fn answer_of(ran: Ran, budget: u32) -> Answer
-    requires { ⌜ ran .left ≤ budget ⌝ }
-    ensures { λ r. ⌜ r ≡ answer-of ran budget ⌝ }
+// The answer of a run that began with this budget. The slice tells the proof how large the numbers are.
+pub fn answer_of(outcome: Outcome, run: &Run, budget: u32) -> Answer
+    requires { ⌜ left-of (now run) ≤ budget ⌝ }
+    ensures { λ r. ⌜ r ≡ answer-of outcome (now (run .entry)) budget ⌝ }
 {
-    let cost = budget - ran.left;
-    let used = ran.used;
-    let outcome = ran.outcome;
+    let all: &[u32] = run;
+    let cost = budget - all[machine::LEFT];
+    let used = all[machine::USED] as usize;
+    let number = all[machine::NUMBER];
+    let node = all[machine::NODE] as usize;
     match outcome {
         Outcome::Done => Answer::Finished(cost, used),
-        Outcome::Stopped(number, node) => Answer::Stopped(number, node, cost, used),
+        Outcome::Stopped => Answer::Stopped(number, node, cost, used),
     }
 }
 

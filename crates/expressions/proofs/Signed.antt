@@ -3,33 +3,38 @@ use mathlib.Core.Path.{_≡_, refl, sym, ap, _∙_}
 use mathlib.Core.Bool.{Bool, true, false, _&&_, false≢true}
 use Prim.Native.Nat.{zero, suc, _+_, _^_, _≤_, _<_}
 use native.Mathlib.Nat.{le-refl, le-antisymm}
+use native.Mathlib.Decide.{decLt}
 use native.Mathlib.Omega.{arith}
-use lib.Dec.{leb}
+use lib.Dec.{leb, ltb}
 use lib.IntN.{ℤ, pos, negsuc, _+ℤ_, _-ℤ_, negℤ}
 use lib.Signed.{mag, ltZ, leZ}
 use mir.Syntax.{Width, w32, w64}
 use mir.Val.{SFits, hbits, toZ, ofZ}
 use mir.Facts.{toZ-ofZ, sfits-widen}
-use borrow.Author.Tests.{le-ltb, le-leb, ltb-true, ltb-false, leb-true}
+use borrow.Author.Tests.{lt-ltb, le-ltb, le-leb, lt-leb, ltb-true, ltb-false, leb-true}
 use Rattle.book.proofs.Chains.{both}
 use Rattle.monitor.specs.Rules.{fits-32, from-bool, equals}
 use Rattle.queries.proofs.Tallies.{mag-sum}
 
 -- ---- 32 bits
 
-pub below : (z : ℤ) → ltZ z (negsuc 2147483647) ≡ true → fits-32 z ≡ false
+pub below : (z : ℤ) → ltZ z (negsuc 2147483647) ≡ true → false ≡ fits-32 z
 unfolding fits-32
-below (pos n) e = absurd (false≢true e)
-below (negsuc n) e = le-ltb n 2147483648 (omega (arith, ltb-true 2147483647 n e))
+below (pos n) e = cc
+below (negsuc n) e = sym (le-ltb n 2147483648 (omega (arith, ltb-true 2147483647 n e)))
 
-pub above : (z : ℤ) → ltZ (pos 2147483647) z ≡ true → fits-32 z ≡ false
+pub not-below : (z : ℤ) → ltZ z (negsuc 2147483647) ≡ false → leZ z (pos 2147483647) ≡ fits-32 z
 unfolding fits-32
-above (pos n) e = le-ltb n 2147483648 (omega (arith, ltb-true 2147483647 n e))
-above (negsuc n) e = absurd (false≢true e)
+not-below (pos n) e = go (decLt n 2147483648)
+  where
+    go : Dec (n < 2147483648) → leb n 2147483647 ≡ ltb n 2147483648
+    go (yes l) = le-leb n 2147483647 (omega arith) ∙ sym (lt-ltb n 2147483648 l)
+    go (no g) = lt-leb n 2147483647 (omega arith) ∙ sym (le-ltb n 2147483648 (omega arith))
+not-below (negsuc n) e = sym (lt-ltb n 2147483648 (omega (arith, ltb-false 2147483647 n e)))
 
-pub within : (z : ℤ) → ltZ z (negsuc 2147483647) ≡ false → ltZ (pos 2147483647) z ≡ false → SFits w32 z
-within (pos n) e f = record { sfits = omega (arith, ltb-false 2147483647 n f) }
-within (negsuc n) e f = record { sfits = omega (arith, ltb-false 2147483647 n e) }
+pub fits-word : {z : ℤ} → fits-32 z ≡ true → SFits w32 z
+unfolding fits-32
+fits-word {z} e = record { sfits = ltb-true (mag z) 2147483648 e }
 
 -- ---- sums and differences
 
@@ -90,3 +95,7 @@ equals-no a b d = go (leZ a b && leZ b a) refl
 
 pub kept : (w : Width) (z : ℤ) → mag z < 2 ^ hbits w → toZ w (ofZ w z) ≡ z
 kept w z h = toZ-ofZ {w = w} {z = z} (record { sfits = h })
+
+-- the test of one
+pub fits-is : (z : ℤ) {b : Bool} → mag z < 2 ^ 63 → b ≡ fits-32 (toZ w64 (ofZ w64 z)) → fits-32 z ≡ b
+fits-is z h e = sym (e ∙ ap fits-32 (kept w64 z h))

@@ -1,109 +1,134 @@
--- What a run gives, from what its parts give: one part after another, the tests 21 and 22. Assumes nothing.
-use mathlib.Core.Path.{_≡_, refl, ap, _∙_}
-use mathlib.Core.List.{[]}
-use mathlib.Core.Bool.{Bool, true, false, cond}
-use Prim.Native.Nat.{ℕ, zero, suc, _-_, _≤_, _<_}
+-- What a run gives, from what its parts give: the cost of its node, one part after another, a value held to 32 bits. Assumes nothing.
+use mathlib.Core.Path.{_≡_, refl, sym, ap, _∙_, subst}
+use mathlib.Core.List.{List}
+use mathlib.Core.Bool.{true, false}
+use Prim.Native.Nat.{ℕ, zero, suc, _≤_}
 use native.Mathlib.Nat.{le-refl, le-trans}
 use native.Mathlib.Omega.{arith}
 use lib.IntN.{ℤ}
-use Rattle.book.specs.Records.{Book}
+use borrow.Author.Tests.{le-leb, lt-leb}
+use Rattle.places.specs.Sets.{union}
 use Rattle.book.specs.Kinds.{cost-of}
 use Rattle.book.specs.Refusals.{node-at}
+use Rattle.book.proofs.Costs.{cost-positive}
 use Rattle.monitor.specs.Labelled.{Label, bottom, Lab}
-use Rattle.monitor.specs.Run.{Cell, Rights, State, Out, done, stop, M, after, next, _>>=_, guard, need}
-use Rattle.monitor.specs.Syntax.{exp-of}
-use Rattle.monitor.specs.Rules.{fits-32, ranged, expr, eval}
-use Rattle.machine.specs.Promises.{Gives, given}
+use Rattle.monitor.specs.Run.{Cell, Rights, State, Out, M, next, _>>=_, guard, pay}
+use Rattle.monitor.specs.Rules.{fits-32, ranged, eval}
+use Rattle.machine.specs.Script.{script-of}
+use Rattle.machine.specs.Store.{left-of}
+use Rattle.machine.specs.Promises.{Stops, Paid, Short, given, Gives, Evaluates, Expresses}
 use Rattle.machine.specs.declared.Value.{Value}
 use Rattle.machine.specs.declared.Value.the-variants.{Known, Stopped}
-use Rattle.machine.specs.declared.Valued.{Valued}
-use Rattle.machine.proofs.Runs.{pay-passes, pay-fails, after-none, next-known}
-use Rattle.expressions.specs.Values.{held-to-32}
-use Rattle.expressions.specs.declared.Evaluated.{Evaluated}
+use Rattle.machine.proofs.Runs.{after-none, next-known, next-failed, need-holds, need-fails}
 
-abbrev pub valued : Value → ℕ → Label → Valued
-valued answer left label = record { answer = answer; left = left; label = label }
+abbrev pub labelled : ℤ → Label → Lab ℤ
+labelled z label = record { val = z; lab = label }
 
-abbrev pub evaluated : Value → ℕ → Evaluated
-evaluated answer left = record { answer = answer; left = left }
-
-abbrev standing : (ℕ → Lab Cell) → (ℕ → Lab ℤ) → ℕ → Rights → ℕ → State
-standing cells vars left rights room = record { cells = cells; vars = vars; rights = rights; left = left; room = room }
-
--- ---- single steps
-
-next-stopped : (v : Value) (number node : ℕ) (l : Label) (s : State) (k : Lab ℤ → M (Lab ℤ)) → v ≡ Stopped number node → next (given v l s) k ≡ given v l s
-unfolding next given
-next-stopped v number node l s k e = rw e
-
-ranged-is : (n : ℕ) (x : Lab ℤ) (s : State) → ranged n x s ≡ given (held-to-32 (x .val) n) (x .lab) s
-unfolding ranged need guard next after given held-to-32
-ranged-is n x s = go (fits-32 (x .val))
-  where
-    go : (y : Bool)
-        → next {A = Unit {0}} (elim y [ true ↦ done [] tt s | false ↦ stop [] (record { number = 22; node = n; obstacle = bottom }) s ]) (λ _ s. done [] x s)
-        ≡ given (cond y (Known (x .val)) (Stopped 22 n)) (x .lab) s
-    go true = refl
-    go false = refl
-
--- ---- one part after another
+abbrev standing : (ℕ → Lab Cell) → (ℕ → Lab ℤ) → Rights → ℕ → List ℕ → State
+standing cells vars rights room run = record { cells = cells; vars = vars; rights = rights; left = left-of run; room = room }
 
 module _ {cells : ℕ → Lab Cell} {vars : ℕ → Lab ℤ} where
   -- the same run, written otherwise
-  pub gives-as : {m m' : ℕ → M (Lab ℤ)} {left : ℕ} {r : Valued} → ((fuel : ℕ) → m fuel ≡ m' fuel) → Gives m' cells vars left r → Gives m cells vars left r
-  gives-as {left = left} e g = record {
-    is = λ fuel h rights room. ap (λ (m : M (Lab ℤ)). m (standing cells vars left rights room)) (e fuel) ∙ g .is fuel h rights room;
-    within = g .within;
+  pub gives-as : {m m' : ℕ → M (Lab ℤ)} {run : List ℕ} {before : Label} {r : Value} {run' : List ℕ} {after : Label}
+      → ((fuel : ℕ) → m fuel ≡ m' fuel) → Gives m' cells vars run before r run' after → Gives m cells vars run before r run' after
+  gives-as {run = run} {before = before} {r = r} {run' = run'} {after = after} e g =
+      subst (λ (m : ℕ → M (Lab ℤ)). Gives m cells vars run before r run' after) (sym (λ i fuel. e fuel i)) g
+
+  -- one part after another; the rest says what becomes of the lent label
+  module _ {m : ℕ → M (Lab ℤ)} {run : List ℕ} {before : Label} {v : Value} {run' : List ℕ} {after : Label}
+      (g : Gives m cells vars run before v run' after) (k : ℕ → Lab ℤ → M (Lab ℤ)) {lent last : Label} where
+    -- a part that stops is passed upward
+    pub stops-at : v ≡ Stopped → Gives (λ fuel. m fuel >>= k fuel) cells vars run lent Stopped run' last
+    unfolding given
+    stops-at e = record {
+      label = bottom;
+      is = λ fuel h rights room. ap (λ (o : Out (Lab ℤ)). next o (k fuel)) (g .is fuel h rights room) ∙ next-failed v (g .label) run' _ (k fuel) e;
+      within = g .within;
+      used-same = g .used-same;
+      joined = λ q. cc;
+    }
+
+    -- a part whose value is known, and the rest with what is left
+    pub goes-on : {r : Value} {run'' : List ℕ} (z : ℤ) → v ≡ Known z
+        → Gives (λ fuel. k fuel (labelled z (g .label))) cells vars run' lent r run'' last → Gives (λ fuel. m fuel >>= k fuel) cells vars run lent r run'' last
+    goes-on z e rest = record {
+      label = rest .label;
+      is = λ fuel h rights room. ap (λ (o : Out (Lab ℤ)). next o (k fuel)) (g .is fuel h rights room)
+          ∙ next-known v (g .label) run' _ (k fuel) z e
+          ∙ rest .is fuel (le-trans (g .within) h) rights room;
+      within = le-trans (rest .within) (g .within);
+      used-same = rest .used-same ∙ g .used-same;
+      joined = rest .joined;
+    }
+
+-- ---- 22
+
+-- a value that is held to 32 bits gives r, whatever its label
+pub record Held (n : ℕ) (z : ℤ) (run : List ℕ) (r : Value) (run' : List ℕ) : Type 0 where
+  pub gives : (cells : ℕ → Lab Cell) (vars : ℕ → Lab ℤ) (label before after : Label) → after ≡ union before label
+      → Gives (λ fuel. ranged n (labelled z label)) cells vars run before r run' after
+
+pub fits-held : {n : ℕ} {z : ℤ} {run : List ℕ} → fits-32 z ≡ true → Held n z run (Known z) run
+unfolding ranged given
+fits-held {n} {z} {run} e = record {
+  gives = λ cells vars label before after j. record {
+    label = label;
+    is = λ fuel h rights room. need-holds _ 22 n _ (standing cells vars rights room run) e;
+    within = le-refl (left-of run);
+    used-same = refl;
+    joined = λ _. j;
+  };
+}
+
+pub stop-held : {n : ℕ} {z : ℤ} {run run' : List ℕ} → fits-32 z ≡ false → Stops run 22 n run' → Held n z run Stopped run'
+unfolding ranged given
+stop-held {n} {z} {run} e s = record {
+  gives = λ cells vars label before after j. record {
+    label = label;
+    is = λ fuel h rights room. rw (s .number-is, s .node-is, s .left-same) (need-fails _ 22 n _ (standing cells vars rights room run) e);
+    within = omega (arith, s .left-same);
+    used-same = s .used-same;
+    joined = λ q. cc;
+  };
+}
+
+-- ---- 21: a node on entry
+
+abbrev cost : List ℕ → ℕ → ℕ
+cost code n = cost-of (node-at (script-of code) n .kind)
+
+module _ (code : List ℕ) (n : ℕ) {cells : ℕ → Lab Cell} {vars : ℕ → Lab ℤ} {run run₁ : List ℕ} {before after : Label} where
+  -- the cost would pass the budget
+  pub unpaid : Short run (cost code n) n run₁ → Gives (Evaluates code n) cells vars run before Stopped run₁ after
+  unfolding eval next given pay guard
+  unpaid s = record {
+    label = bottom;
+    is = λ fuel _ rights room. is fuel rights room;
+    within = omega (arith, s .stops .left-same);
+    used-same = s .stops .used-same;
+    joined = λ q. cc;
   }
-
-  -- a part that stops is passed upward
-  pub stops-at : {m : ℕ → M (Lab ℤ)} (k : ℕ → Lab ℤ → M (Lab ℤ)) {left : ℕ} {x : Valued} {number node : ℕ}
-      → Gives m cells vars left x → x .answer ≡ Stopped number node → Gives (λ fuel. m fuel >>= k fuel) cells vars left x
-  stops-at k {x = x} {number = number} {node = node} g e = record {
-    is = λ fuel h rights room. ap (λ (o : Out (Lab ℤ)). next o (k fuel)) (g .is fuel h rights room) ∙ next-stopped (x .answer) number node (x .label) _ (k fuel) e;
-    within = g .within;
-  }
-
-  -- a part whose value is known, and the rest with what is left
-  pub goes-on : {m : ℕ → M (Lab ℤ)} (k : ℕ → Lab ℤ → M (Lab ℤ)) {left : ℕ} {x r : Valued} (z : ℤ)
-      → Gives m cells vars left x → x .answer ≡ Known z → Gives (λ fuel. k fuel (record { val = z; lab = x .label })) cells vars (x .left) r
-      → Gives (λ fuel. m fuel >>= k fuel) cells vars left r
-  goes-on k {x = x} z g e rest = record {
-    is = λ fuel h rights room. ap (λ (o : Out (Lab ℤ)). next o (k fuel)) (g .is fuel h rights room)
-        ∙ next-known (x .answer) (x .label) _ (k fuel) z e
-        ∙ rest .is fuel (le-trans (g .within) h) rights room;
-    within = le-trans (rest .within) (g .within);
-  }
-
--- 22: a value that is held to 32 bits
-pub ranged-gives : (cells : ℕ → Lab Cell) (vars : ℕ → Lab ℤ) (n left : ℕ) (x : Lab ℤ)
-    → Gives (λ fuel. ranged n x) cells vars left (valued (held-to-32 (x .val) n) left (x .lab))
-ranged-gives cells vars n left x = record { is = λ fuel h rights room. ranged-is n x (standing cells vars left rights room); within = le-refl left }
-
--- ---- a node on entry
-
-module _ (cells : ℕ → Lab Cell) (vars : ℕ → Lab ℤ) (book : Book) (n left cost : ℕ) (e : cost-of (node-at book n .kind) ≡ cost) where
-  -- 21: the cost would pass the budget
-  module _ (h : left < cost) (label : Label) where
-    unpaid-is : (fuel : ℕ) (rights : Rights) (room : ℕ)
-        → eval book fuel n (standing cells vars left rights room) ≡ given (Stopped 21 n) label (standing cells vars left rights room)
-    unfolding eval next given
-    unpaid-is zero rights room = refl
-    unpaid-is (suc fuel) rights room = rw (e, pay-fails cost n (standing cells vars left rights room) h)
-
-    pub unpaid : Gives (λ fuel. eval book fuel n) cells vars left (valued (Stopped 21 n) left label)
-    unpaid = record { is = λ fuel _ rights room. unpaid-is fuel rights room; within = le-refl left }
+    where
+      is : (fuel : ℕ) (rights : Rights) (room : ℕ)
+          → eval (script-of code) fuel n (standing cells vars rights room run) ≡ given Stopped bottom run₁ (standing cells vars rights room run₁)
+      is zero rights room = rw (s .stops .number-is, s .stops .node-is, s .stops .left-same)
+      is (suc fuel) rights room = rw (lt-leb (cost code n) (left-of run) (s .lacks), guard, s .stops .number-is, s .stops .node-is, s .stops .left-same)
 
   -- the cost is paid, and fuel is left for the rest
-  module _ (least : 1 ≤ cost) (h : cost ≤ left) (r : Valued)
-      (rest : Gives (λ fuel. expr (eval book fuel) n (exp-of (node-at book n))) cells vars (left - cost) r) where
-    paid-is : (fuel : ℕ) → left ≤ fuel → (rights : Rights) (room : ℕ)
-        → eval book fuel n (standing cells vars left rights room) ≡ given (r .answer) (r .label) (standing cells vars (r .left) rights room)
-    unfolding eval next
-    paid-is zero l rights room = absurd (omega arith)
-    paid-is (suc fuel) l rights room =
-        rw (e, pay-passes cost n (standing cells vars left rights room) h)
-        (after-none (expr (eval book fuel) n (exp-of (node-at book n)) (standing cells vars (left - cost) rights room)) ∙ rest .is fuel (omega arith) rights room)
-
-    pub paid : Gives (λ fuel. eval book fuel n) cells vars left r
-    paid = record { is = paid-is; within = omega (arith, rest .within) }
+  pub paid : {r : Value} {run' : List ℕ} → Paid run (cost code n) run₁ → Gives (Expresses code n) cells vars run₁ before r run' after
+      → Gives (Evaluates code n) cells vars run before r run' after
+  unfolding eval next pay guard
+  paid {r} {run'} p g = record {
+    label = g .label;
+    is = is;
+    within = omega (arith, g .within, p .left-is);
+    used-same = g .used-same ∙ p .used-same;
+    joined = g .joined;
+  }
+    where
+      is : (fuel : ℕ) → left-of run ≤ fuel → (rights : Rights) (room : ℕ)
+          → eval (script-of code) fuel n (standing cells vars rights room run) ≡ given r (g .label) run' (standing cells vars rights room run')
+      is zero h rights room = absurd (omega (arith, p .enough, cost-positive (node-at (script-of code) n .kind)))
+      is (suc fuel) h rights room =
+          let some : 1 ≤ cost code n = cost-positive (node-at (script-of code) n .kind) in
+          rw (le-leb (cost code n) (left-of run) (p .enough), guard, sym (p .left-is)) (after-none _ ∙ g .is fuel (omega (arith, p .left-is, p .enough)) rights room)

@@ -1,39 +1,30 @@
 // Expressions: evaluated by recursion over node number. Labels are joined to one that is lent, so that none is copied on the way up.
+use machine::Outcome;
+use machine::Run;
 use machine::Script;
+use machine::Sets;
 use machine::Value;
-use machine::Valued;
 ghost use mathlib.Core.Path.{_≡_};
 ghost use mathlib.Core.Bool.{true};
 ghost use Prim.Native.Nat.{ℕ, _<_};
-ghost use Rattle.book.specs.Layout.{decode};
 ghost use Rattle.book.specs.Kinds.{expression, between};
 ghost use Rattle.book.specs.Refusals.{node-at};
 ghost use Rattle.monitor.specs.Labelled.{Lab};
 ghost use Rattle.monitor.specs.Run.{Cell};
-ghost use Rattle.monitor.specs.Call.{cells-of};
-ghost use Rattle.machine.specs.Ready.{Ready, Node};
-ghost use Rattle.machine.specs.Store.{vars-of};
+ghost use Rattle.monitor.specs.Rules.{fits-32};
+ghost use Rattle.machine.specs.Script.{script-of, Runnable, Node};
+ghost use Rattle.machine.specs.Store.{cells-held, vars-of};
 ghost use Rattle.machine.specs.Promises.{Gives, Evaluates, Expresses};
-ghost use Rattle.expressions.specs.Joins.{Joins};
-ghost use Rattle.expressions.specs.Values.{held-to-32, combine};
+ghost use Rattle.expressions.specs.Values.{combine};
 
-// An expression that was evaluated: its value or its stop, and what is left of the budget. Its label went into the lent one.
-struct Evaluated {
-    pub answer: Value,
-    pub left: u32,
-}
-
-// A final value: held to signed 32 bits, or stop 22 on its node.
-fn ranged(value: i64, n: usize) -> Value
-    ensures { λ r. ⌜ r ≡ held-to-32 value n ⌝ }
+// Whether a value is one of signed 32 bits.
+fn fits(value: i64) -> bool
+    ensures { λ r. ⌜ r ≡ fits-32 value ⌝ }
 {
     if value < -2147483648 {
-        return Value::Stopped(22, n);
+        return false;
     }
-    if 2147483647 < value {
-        return Value::Stopped(22, n);
-    }
-    Value::Known(value as i32)
+    value <= 2147483647
 }
 
 // The exact value of 3 a+b, 4 a−b, 5 a equals b, 6 a less than b.
@@ -48,267 +39,149 @@ fn combined(kind: u8, a: i32, b: i32) -> i64
     }
 }
 
-// Evaluates expression `n`: pays its cost, or stops with 21, and gives what its kind says.
-pub fn eval(
-    file: &Script,
-    nodes: usize,
-    costs: &[u32; 27],
-    n: usize,
-    left: u32,
-    vars: &[i32; 16],
-    tags: &[u64; 128],
-    amounts: &[i32; 512],
-    presence: &[u64; 8],
-    labels: &[u64; 4096],
-) -> Valued
-    requires { ⌜ Ready (now file) nodes (now costs) × Node expression (now file) n ⌝ }
-    ensures { λ r. ⌜ Gives (Evaluates (now (file .entry)) n) (cells-of (now (amounts .entry)) (now (presence .entry)) (now (labels .entry)))
-        (vars-of (now (vars .entry)) (now (tags .entry))) left r ⌝ }
-{
-    let mut label = [0u64; 8];
-    let x = join(
-        file,
-        nodes,
-        costs,
-        n,
-        left,
-        vars,
-        tags,
-        amounts,
-        presence,
-        labels,
-        &mut label,
-    );
-    let answer = x.answer;
-    Valued {
-        answer,
-        left: x.left,
-        label,
-    }
-}
-
-// 1 a constant, 2 a variable, whose label is joined to `label`.
+// 1 a constant, 2 a variable, whose label is joined to `label`. The slice tells the proof how many words the lent label has.
 fn leaf(
-    file: &Script,
-    nodes: usize,
-    costs: &[u32; 27],
+    code: &Script,
     n: usize,
-    left: u32,
     vars: &[i32; 16],
-    tags: &[u64; 128],
+    tags: &[[u64; 8]; 16],
+    run: &mut Run,
     label: &mut [u64; 8],
-) -> Evaluated
-    requires { ⌜ Ready (now file) nodes (now costs) × Node expression (now file) n × (node-at (decode (now file)) n .kind < 3) ⌝ }
-    ensures { λ r. ⌜ ((cells : ℕ → Lab Cell) → Joins (Evaluates (now (file .entry)) n) cells
-        (vars-of (now (vars .entry)) (now (tags .entry))) left (now (label .entry)) r (now (label .exit))) ⌝ }
+) -> Value
+    requires { ⌜ Runnable (now code) × Node expression (script-of (now code)) n × (node-at (script-of (now code)) n .kind < 3) ⌝ }
+    ensures { λ r. ⌜ ((cells : ℕ → Lab Cell) → Gives (Evaluates (now (code .entry)) n) cells
+        (vars-of (now (vars .entry)) (now (tags .entry))) (now (run .entry)) (now (label .entry)) r (now (run .exit)) (now (label .exit))) ⌝ }
 {
-    let at = nodes + 16 * n;
-    let kind = file[at];
-    let cost = costs[kind as usize];
-    if left < cost {
-        return Evaluated {
-            answer: Value::Stopped(21, n),
-            left,
-        };
-    }
+    let words: &[u64] = label;
+    let at = 16 * n;
+    let kind = code[at];
+    let paid = machine::pay(code, kind, n, run);
+    let Outcome::Done = paid else {
+        return Value::Stopped;
+    };
     if kind == 1 {
-        return Evaluated {
-            answer: Value::Known(numbers::i32_at(file, at + 10)),
-            left: left - cost,
-        };
+        return Value::Known(numbers::i32_at(code, at + 10));
     }
-    let p = numbers::byte_at(file, at + 1);
-    let old = *label;
-    let next = places::union(old, labels::label_at(tags, p));
-    *label = next;
-    Evaluated {
-        answer: Value::Known(vars[p]),
-        left: left - cost,
-    }
+    let p = numbers::byte_at(code, at + 1);
+    machine::join(label, tags[p]);
+    Value::Known(vars[p])
 }
 
-// Evaluates expression `n` and joins its label to `label`. 3 to 6 have two parts.
-fn join(
-    file: &Script,
-    nodes: usize,
-    costs: &[u32; 27],
+// Evaluates expression `n`: pays its cost, or stops with 21, gives what its kind says, and joins its label to `label`. 3 to 6 have two parts.
+pub fn eval(
+    code: &Script,
     n: usize,
-    left: u32,
     vars: &[i32; 16],
-    tags: &[u64; 128],
-    amounts: &[i32; 512],
-    presence: &[u64; 8],
-    labels: &[u64; 4096],
+    tags: &[[u64; 8]; 16],
+    cells: &[i32; 512],
+    sets: &Sets,
+    run: &mut Run,
     label: &mut [u64; 8],
-) -> Evaluated
-    requires { ⌜ Ready (now file) nodes (now costs) × Node expression (now file) n ⌝ }
-    ensures { λ r. ⌜ Joins (Evaluates (now (file .entry)) n) (cells-of (now (amounts .entry)) (now (presence .entry)) (now (labels .entry)))
-        (vars-of (now (vars .entry)) (now (tags .entry))) left (now (label .entry)) r (now (label .exit)) ⌝ }
+) -> Value
+    requires { ⌜ Runnable (now code) × Node expression (script-of (now code)) n ⌝ }
+    ensures { λ r. ⌜ Gives (Evaluates (now (code .entry)) n) (cells-held (now (cells .entry)) (now (sets .entry)))
+        (vars-of (now (vars .entry)) (now (tags .entry))) (now (run .entry)) (now (label .entry)) r (now (run .exit)) (now (label .exit)) ⌝ }
 {
-    let at = nodes + 16 * n;
-    let kind = file[at];
+    let at = 16 * n;
+    let kind = code[at];
     if kind < 3 {
-        return leaf(file, nodes, costs, n, left, vars, tags, label);
-    }
-    let own = costs[kind as usize];
-    if left < own {
-        return Evaluated {
-            answer: Value::Stopped(21, n),
-            left,
+        let Value::Known(value) = leaf(code, n, vars, tags, run, label) else {
+            return Value::Stopped;
         };
+        return Value::Known(value);
     }
+    let paid = machine::pay(code, kind, n, run);
+    let Outcome::Done = paid else {
+        return Value::Stopped;
+    };
     if 6 < kind {
-        return query(
-            file,
-            nodes,
-            costs,
-            n,
-            left - own,
-            vars,
-            tags,
-            amounts,
-            presence,
-            labels,
-            label,
-        );
+        let Value::Known(value) = query(code, n, vars, tags, cells, sets, run, label) else {
+            return Value::Stopped;
+        };
+        return Value::Known(value);
     }
-    let x = part(
-        file,
-        nodes,
-        costs,
-        numbers::u16_at(file, at + 2),
-        left - own,
-        vars,
-        tags,
-        amounts,
-        presence,
-        labels,
-        label,
-    );
-    let first = x.answer;
-    let Value::Known(a) = first else {
-        return x;
+    let a = numbers::u16_at(code, at + 2);
+    let Value::Known(x) = part(code, a, vars, tags, cells, sets, run, label) else {
+        return Value::Stopped;
     };
-    let y = part(
-        file,
-        nodes,
-        costs,
-        numbers::u16_at(file, at + 4),
-        x.left,
-        vars,
-        tags,
-        amounts,
-        presence,
-        labels,
-        label,
-    );
-    let second = y.answer;
-    let Value::Known(b) = second else {
-        return y;
+    let b = numbers::u16_at(code, at + 4);
+    let Value::Known(y) = part(code, b, vars, tags, cells, sets, run, label) else {
+        return Value::Stopped;
     };
-    Evaluated {
-        answer: ranged(combined(kind, a, b), n),
-        left: y.left,
+    let exact = combined(kind, x, y);
+    if !fits(exact) {
+        machine::stop(run, 22, n);
+        return Value::Stopped;
     }
+    Value::Known(exact as i32)
 }
 
-// The same for a part of another: most are leaves, and are evaluated without a call of `join`, which has a large frame.
+// The same for a part of another: most are leaves, and are evaluated without a call of `eval`, which has a large frame.
 fn part(
-    file: &Script,
-    nodes: usize,
-    costs: &[u32; 27],
+    code: &Script,
     n: usize,
-    left: u32,
     vars: &[i32; 16],
-    tags: &[u64; 128],
-    amounts: &[i32; 512],
-    presence: &[u64; 8],
-    labels: &[u64; 4096],
+    tags: &[[u64; 8]; 16],
+    cells: &[i32; 512],
+    sets: &Sets,
+    run: &mut Run,
     label: &mut [u64; 8],
-) -> Evaluated
-    requires { ⌜ Ready (now file) nodes (now costs) × Node expression (now file) n ⌝ }
-    ensures { λ r. ⌜ Joins (Evaluates (now (file .entry)) n) (cells-of (now (amounts .entry)) (now (presence .entry)) (now (labels .entry)))
-        (vars-of (now (vars .entry)) (now (tags .entry))) left (now (label .entry)) r (now (label .exit)) ⌝ }
+) -> Value
+    requires { ⌜ Runnable (now code) × Node expression (script-of (now code)) n ⌝ }
+    ensures { λ r. ⌜ Gives (Evaluates (now (code .entry)) n) (cells-held (now (cells .entry)) (now (sets .entry)))
+        (vars-of (now (vars .entry)) (now (tags .entry))) (now (run .entry)) (now (label .entry)) r (now (run .exit)) (now (label .exit)) ⌝ }
 {
-    if 2 < file[nodes + 16 * n] {
-        return join(
-            file,
-            nodes,
-            costs,
-            n,
-            left,
-            vars,
-            tags,
-            amounts,
-            presence,
-            labels,
-            label,
-        );
+    if 2 < code[16 * n] {
+        let Value::Known(value) = eval(code, n, vars, tags, cells, sets, run, label) else {
+            return Value::Stopped;
+        };
+        return Value::Known(value);
     }
-    leaf(file, nodes, costs, n, left, vars, tags, label)
+    leaf(code, n, vars, tags, run, label)
 }
 
 // 8 to 11: four bounds, and the cells of a table in their box. The loop calls `part` from one place: from four, it would not be in line.
 fn query(
-    file: &Script,
-    nodes: usize,
-    costs: &[u32; 27],
+    code: &Script,
     n: usize,
-    left: u32,
     vars: &[i32; 16],
-    tags: &[u64; 128],
-    amounts: &[i32; 512],
-    presence: &[u64; 8],
-    labels: &[u64; 4096],
+    tags: &[[u64; 8]; 16],
+    cells: &[i32; 512],
+    sets: &Sets,
+    run: &mut Run,
     label: &mut [u64; 8],
-) -> Evaluated
-    requires { ⌜ Ready (now file) nodes (now costs) × Node expression (now file) n × (between 8 11 (node-at (decode (now file)) n .kind) ≡ true) ⌝ }
-    ensures { λ r. ⌜ Joins (Expresses (now (file .entry)) n) (cells-of (now (amounts .entry)) (now (presence .entry)) (now (labels .entry)))
-        (vars-of (now (vars .entry)) (now (tags .entry))) left (now (label .entry)) r (now (label .exit)) ⌝ }
+) -> Value
+    requires { ⌜ Runnable (now code) × Node expression (script-of (now code)) n × (between 8 11 (node-at (script-of (now code)) n .kind) ≡ true) ⌝ }
+    ensures { λ r. ⌜ Gives (Expresses (now (code .entry)) n) (cells-held (now (cells .entry)) (now (sets .entry)))
+        (vars-of (now (vars .entry)) (now (tags .entry))) (now (run .entry)) (now (label .entry)) r (now (run .exit)) (now (label .exit)) ⌝ }
 {
-    let at = nodes + 16 * n;
+    let at = 16 * n;
     let mut bounds = [0i32; 4];
-    let mut rest = left;
     let mut i: usize = 0;
     while i < 4 {
-        let x = part(
-            file,
-            nodes,
-            costs,
-            numbers::u16_at(file, at + 2 + 2 * i),
-            rest,
-            vars,
-            tags,
-            amounts,
-            presence,
-            labels,
-            label,
-        );
-        let answer = x.answer;
-        let Value::Known(bound) = answer else {
-            return x;
+        let child = numbers::u16_at(code, at + 2 + 2 * i);
+        let Value::Known(bound) = part(code, child, vars, tags, cells, sets, run, label) else {
+            return Value::Stopped;
         };
         bounds[i] = bound;
-        rest = x.left;
         i += 1;
     }
     let found = queries::query(
-        file[at],
-        numbers::byte_at(file, at + 1),
+        code[at],
+        numbers::byte_at(code, at + 1),
         bounds[0],
         bounds[1],
         bounds[2],
         bounds[3],
-        amounts,
-        presence,
-        labels,
+        cells,
+        sets,
     );
     let seen = found.label;
-    let old = *label;
-    let next = places::union(old, seen);
-    *label = next;
-    Evaluated {
-        answer: ranged(found.value, n),
-        left: rest,
+    machine::join(label, seen);
+    let exact = found.value;
+    if !fits(exact) {
+        machine::stop(run, 22, n);
+        return Value::Stopped;
     }
+    Value::Known(exact as i32)
 }

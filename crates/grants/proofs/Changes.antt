@@ -1,211 +1,209 @@
 -- The ways through a grant or a revoke: the tests in their order, and what it does to the rights and the trace. Assumes nothing.
-use mathlib.Core.Path.{_≡_, sym, ap, _∙_}
-use mathlib.Core.List.{List, [], _∷_}
+use mathlib.Core.Path.{_≡_, refl, _∙_}
+use mathlib.Core.List.{List, [], _∷_, _++_}
 use mathlib.Core.Bool.{Bool, true, false, cond}
-use Prim.Native.Nat.{ℕ, _+_, _*_, _≤_, _<_}
-use native.Mathlib.Nat.{le-refl}
+use Prim.Native.Nat.{ℕ, _+_, _-_, _*_, _≤_, _<_}
 use native.Mathlib.Decide.{ℕ-discrete}
 use native.Mathlib.Omega.{arith}
 use borrow.Author.Tests.{leb-true, eq-eqb, ne-eqb}
 use lib.Dec.{eqb, leb}
-use lib.IntN.{ℤ, pos}
-use lib.ListN.{length}
+use lib.IntN.{ℤ}
+use lib.ListN.{length, set, take, drop}
 use Rattle.places.specs.Sets.{within}
-use Rattle.book.specs.Bytes.{byte, le16}
+use Rattle.book.specs.Bytes.{byte, le16, four}
 use Rattle.book.specs.Records.{NodeRecord}
-use Rattle.book.specs.Layout.{count, decode}
 use Rattle.book.specs.Kinds.{between}
 use Rattle.book.specs.Kinds as sorts
 use Rattle.book.specs.Refusals.{node-at}
 use Rattle.book.specs.Start.{public-set}
 use Rattle.book.proofs.Chains.{both}
-use Rattle.monitor.specs.Labelled.{Label, Lab, lit}
+use Rattle.monitor.specs.Labelled.{Label, Lab}
 use Rattle.monitor.specs.Run.{Rights, Rec, changed, M, _>>_, Test, plainly, inside, need, update, tell}
 use Rattle.monitor.specs.Syntax.{cmd-of}
-use Rattle.monitor.specs.Rules.{region-places, granted, revoked, command, eval, exec}
-use Rattle.monitor.specs.Call.{rows}
-use Rattle.monitor.proofs.Start.{script-public}
-use Rattle.machine.specs.Ready.{script-of, Ready, Node}
-use Rattle.machine.specs.Store.{Store, store, rights-of, state, with-records}
-use Rattle.machine.specs.Promises.{ran, ended, Does, env, Commands, Changes}
+use Rattle.monitor.specs.Rules.{region-places, granted, revoked, command}
+use Rattle.machine.specs.Script.{script-of, Runnable, Node}
+use Rattle.machine.specs.Store.{row-at, present-row, public-row, read-row, write-row, label-row, users-rows, Replaces, cells-held, rights-in, used-of, Store, store, state, Lent}
+use Rattle.machine.specs.Promises.{Stops, Does, Commands, Who}
+use Rattle.machine.specs.declared.Outcome.{Outcome}
 use Rattle.machine.specs.declared.Outcome.the-variants.{Done, Stopped}
-use Rattle.machine.specs.declared.Ran.{Ran}
-use Rattle.machine.proofs.Nodes.{script-node, Read, read-at, change-p, change-a, change-b}
-use Rattle.machine.proofs.Runs.{need-holds, need-fails, comes-to, does-as, quietly}
+use Rattle.machine.proofs.Nodes.{Read, read-at, change-p, change-a, change-b}
+use Rattle.machine.proofs.Runs.{need-holds, need-fails, with-run, comes-to, does-as, stops-on}
+use Rattle.machine.proofs.Stores.{no-user, users-same, users-replaced}
 use Rattle.grants.specs.Rights.{altered, kind-of}
-use Rattle.traces.proofs.Records.{tell-full, tell-writes}
+use Rattle.traces.proofs.Records.{tell-full, tell-writes, changed-recorded}
 
--- ---- what the code reads and tests
+-- ---- what the code reads
 
--- the code's test is that of the rules
-pub public-test : (file : List ℕ) (ctx : Label) {public : Label} {fine : Bool}
-    → fine ≡ within ctx public → public ≡ public-set (decode file) → fine ≡ within ctx (public-set (decode file))
-public-test file ctx e ep = e ∙ ap (within ctx) ep
+-- a node that grants or revokes
+abbrev Of : List ℕ → ℕ → Type 0
+Of code n = Node sorts.command (script-of code) n × (between 24 25 (node-at (script-of code) n .kind) ≡ true)
 
--- the kind of the record, where the node names the right by 1 or not
-abbrev rule-kind : Bool → Bool → ℕ
-rule-kind grants reads = cond grants (cond reads 2 3) (cond reads 4 5)
+module _ (code : List ℕ) (n : ℕ) (v : Runnable code) (g : Of code n) where
+  read : Read code (16 * n) (node-at (script-of code) n)
+  read = read-at code v n (g .0 .inside)
 
-module _ {file : List ℕ} {nodes : ℕ} {costs : List ℕ} {n : ℕ} (l : Ready file nodes costs) (nd : Node sorts.command file n) where
-  abbrev at : ℕ
-  at = nodes + 16 * n
+  user-below : node-at (script-of code) n .p < 8
+  user-below = change-p (script-of code) (v .sound) n (g .0 .inside) (g .1)
 
-  abbrev node : NodeRecord
-  node = node-at (decode file) n
+  -- what it asks of the node's fields
+  pub asks : (16 * n + 16 ≤ length code) × ((byte code (16 * n + 1) < 8) × (le16 code (16 * n + 2) < length (script-of code .regions)))
+  asks = (read .end, (rw (read .p) user-below, rw (read .a) (change-a (script-of code) (v .sound) n (g .0 .inside) (g .1))))
 
-  pub change-reads : Read file at node
-  change-reads = read-at file (l .runnable) n (nd .inside) nodes (l .nodes-start)
+  -- 1 read, 2 write: the first byte tells which
+  pub names-read : byte code (16 * n + 4) ≡ 1 → eqb (node-at (script-of code) n .b) 1 ≡ true
+  names-read q =
+      let b : ℕ = node-at (script-of code) n .b in
+      eq-eqb b 1 (omega (arith, q, read .b, leb-true b 2 (both (leb 1 b) _ (change-b (script-of code) (v .sound) n (g .0 .inside) (g .1)) .1)))
 
-  module _ (e : between 24 25 (node .kind) ≡ true) where
-    pub names : (byte file (at + 1) < 8) × (le16 file (at + 2) < count file 1)
-    names =
-        let user : byte file (at + 1) < 8 = omega (arith, change-reads .p, change-p file (l .runnable) n (nd .inside) e) in
-        let region : le16 file (at + 2) < count file 1 = omega (arith, change-reads .a, change-a file (l .runnable) n (nd .inside) e) in
-        (user, region)
+  pub names-write : (byte code (16 * n + 4) ≡ 1 → ⊥) → eqb (node-at (script-of code) n .b) 1 ≡ false
+  names-write d = ne-eqb (node-at (script-of code) n .b) 1 (λ q. d (omega (arith, q, read .b)))
 
-    -- 1 read, 2 write: the first byte tells which
-    pub names-read : byte file (at + 4) ≡ 1 → node .b ≡ 1
-    names-read q = omega (arith, change-reads .b, leb-true (node .b) 2 (both (leb 1 (node .b)) _ (change-b file (l .runnable) n (nd .inside) e) .1))
+-- ---- the sets
 
-    pub names-write : (byte file (at + 4) ≡ 1 → ⊥) → node .b ≡ 1 → ⊥
-    names-write d q = d (omega (arith, change-reads .b))
+-- the first row of a right
+abbrev first : Bool → ℕ
+first reads = cond reads read-row write-row
 
-    -- the code's kind of the record is that of the rules
-    pub read-kind : node .b ≡ 1 → kind-of (eqb (byte file at) 24) 1 ≡ rule-kind (eqb (node .kind) 24) (eqb (node .b) 1)
-    read-kind q = λ i. rule-kind (eqb (change-reads .kind i) 24) (sym (eq-eqb (node .b) 1 q) i)
+module _ (sets sets' : List (List ℕ)) {users : ℕ → Label} (reads : Bool) (r : Replaces sets (first reads) users sets') where
+  -- the rows of a right are neither the public set nor of the cells
+  low : (i : ℕ) → i < 2 → i < first reads
+  low i h = elim reads as (λ b. i < first b) [ true ↦ h | false ↦ omega arith ]
 
-    pub write-kind : (node .b ≡ 1 → ⊥) → kind-of (eqb (byte file at) 24) 2 ≡ rule-kind (eqb (node .kind) 24) (eqb (node .b) 1)
-    write-kind d = λ i. rule-kind (eqb (change-reads .kind i) 24) (sym (ne-eqb (node .b) 1 d) i)
+  high : (i : ℕ) → 18 ≤ i → first reads + 8 ≤ i
+  high i h = elim reads as (λ b. first b + 8 ≤ i) [ true ↦ omega arith | false ↦ h ]
 
-    -- and so is its change of the sets
-    pub altered-as : (sets : List (List ℕ)) {next : ℕ → Label}
-        → next ≡ update (rows sets) (byte file (at + 1))
-        (altered (eqb (byte file at) 24) (rows sets (byte file (at + 1))) (region-places (script-of file) (le16 file (at + 2))))
-        → next ≡ update (rows sets) (node .p) (altered (eqb (node .kind) 24) (rows sets (node .p)) (region-places (script-of file) (node .a)))
-    altered-as sets q =
-        let r = change-reads in
-        q ∙ (λ i. update (rows sets) (r .p i) (altered (eqb (r .kind i) 24) (rows sets (r .p i)) (region-places (script-of file) (r .a i))))
+  cells-stay : (amounts : List ℤ) → cells-held amounts sets ≡ cells-held amounts sets'
+  unfolding cells-held
+  cells-stay amounts = λ i q. at q i
+    where
+      at : (q : ℕ) → cells-held amounts sets q ≡ cells-held amounts sets' q
+      at q = rw (r .before present-row (low present-row (omega arith)), r .after (label-row + q) (high (label-row + q) (omega arith)))
 
--- ---- the rights
+-- one user's set, in the sets of one right
+abbrev one-altered : (ℕ → Label) → ℕ → Bool → Label → ℕ → Label
+one-altered users p grants region = update users p (altered grants (users p) region)
 
-module _ (file : List ℕ) (p a b : ℕ) (read write : List (List ℕ)) where
-  abbrev after : Bool → Rights
-  after grants = cond grants (granted (script-of file) p a b) (revoked (script-of file) p a b) (rights-of read write)
+-- there are no other users after it
+none-altered : (sets : List (List ℕ)) (f p : ℕ) (new : Label) → p < 8 → (user : ℕ) → 8 ≤ user → update (users-rows sets f) p new user ≡ []
+unfolding update
+none-altered sets f p new h user g = rw (ne-eqb user p (λ e. omega (arith, e))) (no-user sets f user g)
 
-  abbrev as-altered : Bool → List (List ℕ) → ℕ → Label
-  as-altered grants sets = update (rows sets) p (altered grants (rows sets p) (region-places (script-of file) a))
+-- the rights after it are those of the rule
+module _ (code : List ℕ) (p a b : ℕ) (small : p < 8) (sets sets' : List (List ℕ)) where
+  abbrev Becomes : Bool → Bool → Type 0
+  Becomes reads grants = Replaces sets (first reads) (one-altered (users-rows sets (first reads)) p grants (region-places (script-of code) a)) sets'
 
-  read-after : (grants : Bool) (read' : List (List ℕ)) → eqb b 1 ≡ true → rows read' ≡ as-altered grants read → after grants ≡ rights-of read' write
+  reads-become : (grants : Bool) → Becomes true grants
+      → record { read = one-altered (users-rows sets read-row) p grants (region-places (script-of code) a); write = users-rows sets write-row } ≡ rights-in sets'
+  reads-become grants r = rw (
+    users-replaced sets sets' read-row _ r (none-altered sets read-row p _ small),
+    users-same sets sets' write-row (λ user h. r .after (write-row + user) (omega arith)),
+  )
+
+  writes-become : (grants : Bool) → Becomes false grants
+      → record { read = users-rows sets read-row; write = one-altered (users-rows sets write-row) p grants (region-places (script-of code) a) } ≡ rights-in sets'
+  writes-become grants r = rw (
+    users-replaced sets sets' write-row _ r (none-altered sets write-row p _ small),
+    users-same sets sets' read-row (λ user h. r .before (read-row + user) (omega arith)),
+  )
+
+  rights-become : (reads grants : Bool) → eqb b 1 ≡ reads → Becomes reads grants
+      → cond grants (granted (script-of code) p a b) (revoked (script-of code) p a b) (rights-in sets) ≡ rights-in sets'
   unfolding granted revoked
-  read-after true read' e q = rw (e, q)
-  read-after false read' e q = rw (e, q)
-
-  write-after : (grants : Bool) (write' : List (List ℕ)) → eqb b 1 ≡ false → rows write' ≡ as-altered grants write → after grants ≡ rights-of read write'
-  unfolding granted revoked
-  write-after true write' e q = rw (e, q)
-  write-after false write' e q = rw (e, q)
+  rights-become true true e r = rw e (reads-become true r)
+  rights-become true false e r = rw e (reads-become false r)
+  rights-become false true e r = rw e (writes-become true r)
+  rights-become false false e r = rw e (writes-become false r)
 
 -- ---- the rule, for a grant and a revoke alike
 
-module _ (file : List ℕ) (ctx : Label) (n : ℕ) where
-  abbrev x : NodeRecord
-  x = node-at (decode file) n
+-- the kind of the record
+abbrev rule-kind : Bool → Bool → ℕ
+rule-kind grants reads = cond grants (cond reads 2 3) (cond reads 4 5)
+
+code-kind : (grants reads : Bool) → kind-of grants (cond reads 1 2) ≡ rule-kind grants reads
+code-kind true true = refl
+code-kind true false = refl
+code-kind false true = refl
+code-kind false false = refl
+
+module _ (code : List ℕ) (ctx : Label) (n : ℕ) where
+  abbrev node : NodeRecord
+  node = node-at (script-of code) n
 
   abbrev grants : Bool
-  grants = eqb (x .kind) 24
+  grants = eqb (node .kind) 24
 
   abbrev change-record : Rec
-  change-record = changed (rule-kind grants (eqb (x .b) 1)) (x .p) (x .a)
+  change-record = changed (rule-kind grants (eqb (node .b) 1)) (node .p) (node .a)
 
   abbrev rights-after : Rights → Rights
-  rights-after = cond grants (granted (script-of file) (x .p) (x .a) (x .b)) (revoked (script-of file) (x .p) (x .a) (x .b))
+  rights-after = cond grants (granted (script-of code) (node .p) (node .a) (node .b)) (revoked (script-of code) (node .p) (node .a) (node .b))
+
+  abbrev test : Test
+  test = inside true ctx (public-set (script-of code))
 
   abbrev alters : ℕ → M (Unit {0})
   alters user = do
     need (plainly (eqb user 0)) 28 n
-    need (inside true ctx (public-set (script-of file))) 29 n
+    need test 29 n
     tell n change-record rights-after
 
-  abbrev runs : ℕ → ℕ → ℕ → NodeRecord → M (Unit {0})
-  runs user above fuel y =
-      command (script-of file) true (eval (script-of file) fuel) (exec (script-of file) true fuel) (env ctx user above) n (cmd-of y)
-
-  as-change : between 24 25 (x .kind) ≡ true → (user above fuel : ℕ) → Commands file ctx user above n fuel ≡ alters user
+  as-change : between 24 25 (node .kind) ≡ true → (who : Who) (fuel : ℕ) → Commands code ctx who n fuel ≡ alters (who .user)
   unfolding command cmd-of
-  as-change e user above fuel = ap (runs user above fuel) (script-node file n) ∙ go (ℕ-discrete (x .kind) 24)
+  as-change e who fuel = go (ℕ-discrete (node .kind) 24)
     where
-      go : Dec (x .kind ≡ 24) → runs user above fuel x ≡ alters user
+      go : Dec (node .kind ≡ 24) → Commands code ctx who n fuel ≡ alters (who .user)
       go (yes k) = rw k
       go (no d) =
-          let low : 24 ≤ x .kind = leb-true 24 (x .kind) (both (leb 24 (x .kind)) _ e .0) in
-          let high : x .kind ≤ 25 = leb-true (x .kind) 25 (both (leb 24 (x .kind)) _ e .1) in
-          let k : x .kind ≡ 25 = omega arith in
+          let low : 24 ≤ node .kind = leb-true 24 (node .kind) (both (leb 24 (node .kind)) _ e .0) in
+          let high : node .kind ≤ 25 = leb-true (node .kind) 25 (both (leb 24 (node .kind)) _ e .1) in
+          let k : node .kind ≡ 25 = omega arith in
           rw k
 
   -- ---- the ways
 
-  module _ (left used : ℕ) (read write : List (List ℕ)) (trace : List ℕ) (e : between 24 25 (x .kind) ≡ true) (u : used ≤ length trace) where
-    abbrev lent : List ℤ → List ℕ → List ℕ → Store
-    lent amounts presence labels = store amounts presence labels read write trace
+  module _ (who : Who) (vars : ℕ → Lab ℤ) (x : Store) (g : Lent code (x .sets) (x .run) (x .trace) × Of code n) where
+    abbrev Ends : Outcome → Store → Type 0
+    Ends r x' = Does (Commands code ctx who n) vars x r vars x'
 
-    abbrev Changing : ℕ → Ran → List (List ℕ) → List (List ℕ) → List ℕ → Type 0
-    Changing user r read' write' trace' = Changes file ctx user n left used read write trace r read' write' trace'
+    pub change-refused : {r : Outcome} {run : List ℕ} → (who .user ≡ 0 → ⊥) → (r ≡ Stopped) × Stops (x .run) 28 n run
+        → Ends r (with-run x run)
+    change-refused h s = does-as (as-change (g .1 .1) who) (rw (s .0) (stops-on (g .0 .room) _ (s .1)
+        (λ fuel _. need-fails (plainly (eqb (who .user) 0)) 28 n _ (state vars x) (ne-eqb (who .user) 0 h))))
 
-    -- m makes the change, whatever the variables and the cells
-    abbrev Makes : M (Unit {0}) → Ran → List (List ℕ) → List (List ℕ) → List ℕ → Type 0
-    Makes m r read' write' trace' = (vars : ℕ → Lab ℤ) (amounts : List ℤ) (presence labels : List ℕ)
-        → Does (λ fuel. m) vars (lent amounts presence labels) left used r vars (store amounts presence labels read' write' trace')
+    module _ (eu : who .user ≡ 0) where
+      pub change-hidden : {r : Outcome} {run : List ℕ} → within ctx (row-at (x .sets) public-row) ≡ false → (r ≡ Stopped) × Stops (x .run) 29 n run
+          → Ends r (with-run x run)
+      change-hidden h s = does-as (as-change (g .1 .1) who) (rw (s .0) (stops-on (g .0 .room) _ (s .1)
+          (λ fuel _. need-holds (plainly (eqb (who .user) 0)) 28 n _ (state vars x) (eq-eqb (who .user) 0 eu)
+          ∙ need-fails test 29 n _ (state vars x) (rw (← g .0 .public-is) h))))
 
-    made : {user : ℕ} {r : Ran} {read' write' : List (List ℕ)} {trace' : List ℕ} → Makes (alters user) r read' write' trace' → Changing user r read' write' trace'
-    made {user} d = record {
-      does = λ above vars amounts presence labels. does-as (as-change e user above) (d vars amounts presence labels);
-      within = d (λ p. lit (pos 0)) [] [] [] .within;
-    }
-
-    pub change-refused : {user : ℕ} {r : Ran} → (user ≡ 0 → ⊥) → r ≡ ran (Stopped 28 n) left used → Changing user r read write trace
-    unfolding ended
-    change-refused {user} h q = made λ vars amounts presence labels.
-        quietly (Stopped 28 n) _ left q (le-refl left) u
-        (λ fuel _. need-fails (plainly (eqb user 0)) 28 n _ (state vars (lent amounts presence labels) left used) (ne-eqb user 0 h))
-
-    module _ {user : ℕ} (eu : user ≡ 0) where
-      abbrev test : Test
-      test = inside true ctx (public-set (script-of file))
-
-      -- the test, with the public set of the rules
-      same-test : test .passes ≡ within ctx (public-set (decode file))
-      same-test = ap (within ctx) (script-public (decode file))
-
-      pub change-hidden : {r : Ran} → within ctx (public-set (decode file)) ≡ false → r ≡ ran (Stopped 29 n) left used → Changing user r read write trace
-      unfolding ended
-      change-hidden h q = made λ vars amounts presence labels.
-          let s = state vars (lent amounts presence labels) left used in
-          quietly (Stopped 29 n) _ left q (le-refl left) u
-          (λ fuel _. need-holds (plainly (eqb user 0)) 28 n _ s (eq-eqb user 0 eu) ∙ need-fails test 29 n _ s (same-test ∙ h))
-
-      module _ (h : within ctx (public-set (decode file)) ≡ true) where
+      module _ (h : within ctx (row-at (x .sets) public-row) ≡ true) where
         -- what is left is to tell
-        allowed : {r : Ran} {read' write' : List (List ℕ)} {trace' : List ℕ}
-            → Makes (tell n change-record rights-after) r read' write' trace' → Changing user r read' write' trace'
-        allowed t = made λ vars amounts presence labels.
-            let s = state vars (lent amounts presence labels) left used in
-            comes-to
-            (λ fuel _. need-holds (plainly (eqb user 0)) 28 n _ s (eq-eqb user 0 eu) ∙ need-holds test 29 n _ s (same-test ∙ h))
-            (t vars amounts presence labels)
+        allowed : {r : Outcome} {x' : Store} → Does (λ fuel. tell n change-record rights-after) vars x r vars x' → Ends r x'
+        allowed t = does-as (as-change (g .1 .1) who) (comes-to
+            (λ fuel _. need-holds (plainly (eqb (who .user) 0)) 28 n _ (state vars x) (eq-eqb (who .user) 0 eu)
+            ∙ need-holds test 29 n _ (state vars x) (rw (← g .0 .public-is) h)) t)
 
-        pub change-full : {r : Ran} → length trace < used + 8 → r ≡ ran (Stopped 30 n) left used → Changing user r read write trace
-        change-full f q = allowed λ vars amounts presence labels. tell-full n change-record rights-after u f q
+        pub change-full : {r : Outcome} {run : List ℕ} → length (x .trace) < used-of (x .run) + 8 → (r ≡ Stopped) × Stops (x .run) 30 n run
+            → Ends r (with-run x run)
+        change-full f s = allowed (tell-full n change-record rights-after (g .0 .room) f s)
 
-        module _ (f : used + 8 ≤ length trace) {r : Ran} {trace' : List ℕ} (et : trace' ≡ with-records trace used (change-record ∷ []))
-            (q : r ≡ ran Done left (used + 8)) where
-          pub change-read : {read' : List (List ℕ)} → x .b ≡ 1
-              → rows read' ≡ update (rows read) (x .p) (altered grants (rows read (x .p)) (region-places (script-of file) (x .a)))
-              → Changing user r read' write trace'
-          change-read {read' = read'} eb er = allowed λ vars amounts presence labels.
-              tell-writes n change-record rights-after f et (read-after file _ _ _ read write grants read' (eq-eqb (x .b) 1 eb) er) q
-
-          pub change-write : {write' : List (List ℕ)} → (x .b ≡ 1 → ⊥)
-              → rows write' ≡ update (rows write) (x .p) (altered grants (rows write (x .p)) (region-places (script-of file) (x .a)))
-              → Changing user r read write' trace'
-          change-write {write' = write'} eb er = allowed λ vars amounts presence labels.
-              tell-writes n change-record rights-after f et (write-after file _ _ _ read write grants write' (ne-eqb (x .b) 1 eb) er) q
+        -- the right that the node names, and what the code has done to its sets and to the part of the trace that it is lent
+        pub change-made : (reads : Bool) → eqb (node .b) 1 ≡ reads → length (x .run) ≡ 4 → used-of (x .run) + 8 ≤ length (x .trace) → {sets : List (List ℕ)} {part : List ℕ}
+            → Replaces (x .sets) (first reads) (one-altered (users-rows (x .sets) (first reads)) (byte code (16 * n + 1)) (eqb (byte code (16 * n)) 24)
+            (region-places (script-of code) (le16 code (16 * n + 2)))) sets
+            → part ≡ kind-of (eqb (byte code (16 * n)) 24) (cond reads 1 2) ∷ byte code (16 * n + 1) ∷ le16 code (16 * n + 2) ∷ 0
+            ∷ four 0 ++ drop 8 (take (length (x .trace) - used-of (x .run)) (drop (used-of (x .run)) (x .trace)))
+            → Ends Done (store (x .amounts) sets (set (x .run) 1 (used-of (x .run) + 8))
+            (take (used-of (x .run)) (x .trace) ++ (part ++ drop (length (x .trace) - used-of (x .run)) (drop (used-of (x .run)) (x .trace)))))
+        change-made reads eb long f {sets} replaced put =
+            let r = read code n (g .0 .runnable) (g .1) in
+            let new = rw (r .kind, r .p, r .a) at replaced in
+            let kind : kind-of (eqb (byte code (16 * n)) 24) (cond reads 1 2) ≡ rule-kind grants (eqb (node .b) 1) = rw (r .kind, eb) (code-kind grants reads) in
+            allowed (tell-writes n change-record rights-after long f
+            (changed-recorded (x .trace) (used-of (x .run)) f put kind (r .p) (r .a))
+            (cells-stay (x .sets) sets reads new (x .amounts))
+            (rights-become code (node .p) (node .a) (node .b) (user-below code n (g .0 .runnable) (g .1)) (x .sets) sets reads grants eb new)
+            (new .before public-row (low (x .sets) sets reads new public-row (omega arith))))

@@ -1,23 +1,27 @@
 // Commands that change the rights: grant and revoke.
-use machine::Ran;
+use machine::Outcome;
+use machine::Run;
 use machine::Script;
+use machine::Sets;
+use machine::Who;
 ghost use mathlib.Core.Path.{_≡_};
 ghost use mathlib.Core.Bool.{true};
-ghost use mathlib.Core.List.{_∷_, _++_};
-ghost use Prim.Native.Nat.{_+_, _≤_, _<_};
+ghost use mathlib.Core.List.{List, _∷_, _++_};
+ghost use Prim.Native.Nat.{ℕ, _+_, _≤_, _<_};
+ghost use lib.IntN.{ℤ};
 ghost use lib.Dec.{eqb};
 ghost use lib.ListN.{length, drop};
 ghost use Rattle.places.specs.Sets.{union, difference};
 ghost use Rattle.book.specs.Bytes.{byte, le16, four};
-ghost use Rattle.book.specs.Layout.{count, decode};
 ghost use Rattle.book.specs.Kinds.{command, between};
 ghost use Rattle.book.specs.Refusals.{node-at};
-ghost use Rattle.book.specs.Start.{public-set};
+ghost use Rattle.monitor.specs.Labelled.{Lab};
 ghost use Rattle.monitor.specs.Run.{update};
 ghost use Rattle.monitor.specs.Rules.{region-places};
 ghost use Rattle.monitor.specs.Call.{rows};
-ghost use Rattle.machine.specs.Ready.{script-of, Runnable, Ready, Node};
-ghost use Rattle.machine.specs.Promises.{Changes};
+ghost use Rattle.machine.specs.Script.{script-of, Runnable, Node};
+ghost use Rattle.machine.specs.Store.{users-rows, Replaces, store, Lent};
+ghost use Rattle.machine.specs.Promises.{Does, Commands, who-of};
 ghost use Rattle.grants.specs.Rights.{altered, kind-of};
 
 // The rights with a region's places added to one user's set.
@@ -62,65 +66,63 @@ fn record_kind(kind: u8, right: u8) -> u8
     3 + right
 }
 
-// Grants or revokes as the node at `at` says, in the sets of one right, 1 read or 2 write, and writes the record of it at the start of `rest`.
-fn alter(file: &Script, at: usize, right: u8, sets: &mut [[u64; 8]; 8], rest: &mut [u8])
-    requires { ⌜ Runnable (now file) × (at + 16 ≤ length (now file)) ⌝ }
-    requires { ⌜ (byte (now file) (at + 1) < 8) × (le16 (now file) (at + 2) < count (now file) 1) ⌝ }
+// Grants or revokes as the node at `at` says, in the sets of one right from row `first` on, and writes the record of it at the start of `rest`;
+// `right` is 1 read, 2 write.
+fn alter(code: &Script, at: usize, right: u8, first: usize, sets: &mut Sets, rest: &mut [u8])
+    requires { ⌜ Runnable (now code) × (at + 16 ≤ length (now code)) × (first + 8 ≤ 18) ⌝ }
+    requires { ⌜ (byte (now code) (at + 1) < 8) × (le16 (now code) (at + 2) < length (script-of (now code) .regions)) ⌝ }
     requires { ⌜ (right ≤ 2) × (8 ≤ length (now rest)) ⌝ }
-    ensures { λ _. ⌜ rows (now (sets .exit)) ≡ update (rows (now (sets .entry))) (byte (now (file .entry)) (at + 1))
-        (altered (eqb (byte (now (file .entry)) at) 24) (rows (now (sets .entry)) (byte (now (file .entry)) (at + 1)))
-        (region-places (script-of (now (file .entry))) (le16 (now (file .entry)) (at + 2)))) ⌝ }
-    ensures { λ _. ⌜ now (rest .exit) ≡ kind-of (eqb (byte (now (file .entry)) at) 24) right
-        ∷ byte (now (file .entry)) (at + 1) ∷ le16 (now (file .entry)) (at + 2) ∷ 0 ∷ four 0 ++ drop 8 (now (rest .entry)) ⌝ }
+    ensures { λ _. ⌜ Replaces (now (sets .entry)) first (update (users-rows (now (sets .entry)) first) (byte (now (code .entry)) (at + 1))
+        (altered (eqb (byte (now (code .entry)) at) 24) (users-rows (now (sets .entry)) first (byte (now (code .entry)) (at + 1)))
+        (region-places (script-of (now (code .entry))) (le16 (now (code .entry)) (at + 2))))) (now (sets .exit)) ⌝ }
+    ensures { λ _. ⌜ now (rest .exit) ≡ kind-of (eqb (byte (now (code .entry)) at) 24) right
+        ∷ byte (now (code .entry)) (at + 1) ∷ le16 (now (code .entry)) (at + 2) ∷ 0 ∷ four 0 ++ drop 8 (now (rest .entry)) ⌝ }
 {
-    let kind = file[at];
-    let user = numbers::byte_at(file, at + 1);
-    let region = numbers::u16_at(file, at + 2);
+    let kind = code[at];
+    let user = numbers::byte_at(code, at + 1);
+    let region = numbers::u16_at(code, at + 2);
     traces::put_record(rest, record_kind(kind, right), user as u8, region as u8, 0);
-    let old = *sets;
-    let next = changed(kind, old, user, machine::region_places(file, region));
-    *sets = next;
+    let old = machine::users_sets(sets, first);
+    let next = changed(kind, old, user, machine::region_places(code, region));
+    machine::store_users(sets, first, next);
 }
 
 // 24 grant and 25 revoke: region a for user p, in the read sets or the write sets. Stops 28, 29 and 30.
 pub fn change(
-    file: &Script,
-    nodes: usize,
-    costs: &[u32; 27],
-    public: &[u64; 8],
+    code: &Script,
     n: usize,
-    user: usize,
-    left: u32,
+    who: &Who,
     ctx: &[u64; 8],
-    read: &mut [[u64; 8]; 8],
-    write: &mut [[u64; 8]; 8],
+    sets: &mut Sets,
+    run: &mut Run,
     trace: &mut [u8],
-    used: usize,
-) -> Ran
-    requires { ⌜ Ready (now file) nodes (now costs) × (now public ≡ public-set (decode (now file))) ⌝ }
-    requires { ⌜ (length (now trace) ≤ 65536) × (used ≤ length (now trace)) ⌝ }
-    requires { ⌜ Node command (now file) n × (between 24 25 (node-at (decode (now file)) n .kind) ≡ true) ⌝ }
-    ensures { λ r. ⌜ Changes (now (file .entry)) (now (ctx .entry)) user n left used (now (read .entry)) (now (write .entry)) (now (trace .entry))
-        r (now (read .exit)) (now (write .exit)) (now (trace .exit)) ⌝ }
+) -> Outcome
+    requires { ⌜ Lent (now code) (now sets) (now run) (now trace) ⌝ }
+    requires { ⌜ Node command (script-of (now code)) n × (between 24 25 (node-at (script-of (now code)) n .kind) ≡ true) ⌝ }
+    ensures { λ r. ⌜ ((vars : ℕ → Lab ℤ) (cells : List ℤ) → Does (Commands (now (code .entry)) (now (ctx .entry)) (who-of (now (who .entry))) n)
+        vars (store cells (now (sets .entry)) (now (run .entry)) (now (trace .entry))) r
+        vars (store cells (now (sets .exit)) (now (run .exit)) (now (trace .exit)))) ⌝ }
 {
-    if user != 0 {
-        return machine::stopped(28, n, left, used);
+    let all: &[u32] = run;
+    if who[machine::USER] != 0 {
+        return machine::stop(run, 28, n);
     }
     let context = *ctx;
-    let everyone = *public;
+    let everyone = sets[machine::PUBLIC];
     let open = places::within(context, everyone);
     if !open {
-        return machine::stopped(29, n, left, used);
+        return machine::stop(run, 29, n);
     }
-    let end = used + 8;
-    if trace.len() < end {
-        return machine::stopped(30, n, left, used);
+    let used = run[machine::USED] as usize;
+    if trace.len() < used + 8 {
+        return machine::stop(run, 30, n);
     }
-    let at = nodes + 16 * n;
-    if file[at + 4] == 1 {
-        alter(file, at, 1, read, &mut trace[used..]);
-        return machine::finished(left, end);
+    run[machine::USED] = run[machine::USED] + 8;
+    let at = 16 * n;
+    if code[at + 4] == 1 {
+        alter(code, at, 1, machine::READ, sets, &mut trace[used..]);
+        return Outcome::Done;
     }
-    alter(file, at, 2, write, &mut trace[used..]);
-    machine::finished(left, end)
+    alter(code, at, 2, machine::WRITE, sets, &mut trace[used..]);
+    Outcome::Done
 }

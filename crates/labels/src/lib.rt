@@ -1,24 +1,10 @@
-// The labels of the 512 cells, and those of variables, in lent memory: the label of cell p is the eight words from 8 * p on.
+// The labels of the 512 cells in lent memory: the label of cell p is the eight words from 8 * p on.
 ghost use mathlib.Core.Path.{_≡_};
 ghost use Prim.Native.Nat.{_+_, _*_, _≤_};
 ghost use lib.ListN.{length};
-ghost use Rattle.labels.specs.Labels.{label-at, set-label, own-labels, no-labels};
+ghost use Rattle.labels.specs.Labels.{set-label, own-labels, no-labels};
 
-// The label of cell `place`, or of a variable where the words are those of variables.
-pub fn label_at(labels: &[u64], place: usize) -> [u64; 8]
-    requires { ⌜ 8 * place + 8 ≤ length (now labels) ⌝ }
-    ensures { λ r. ⌜ r ≡ label-at (now (labels .entry)) place ⌝ }
-{
-    let mut label = [0u64; 8];
-    let mut offset: usize = 0;
-    while offset < 8 {
-        label[offset] = labels[8 * place + offset];
-        offset += 1;
-    }
-    label
-}
-
-// Makes `label` the label of cell or variable `place`; the other labels stay.
+// Makes `label` the label of cell `place`; the other labels stay.
 pub fn set_label(labels: &mut [u64], place: usize, label: [u64; 8])
     requires { ⌜ 8 * place + 8 ≤ length (now labels) ⌝ }
     ensures { λ _. ⌜ now (labels .exit) ≡ set-label (now (labels .entry)) place label ⌝ }

@@ -21,7 +21,7 @@ fn clear(amounts: &mut [i32])
 }
 
 // Sets the amounts of a book's cells, from the last record to the first, and 0 elsewhere; answers the places of the cells.
-fn load_cells(file: &[u8], amounts: &mut [i32]) -> [u64; 8]
+pub fn load_cells(file: &[u8], amounts: &mut [i32]) -> [u64; 8]
     requires { ⌜ (verdict (now file) ≡ Accepted) × (length (now amounts) ≡ 512) ⌝ }
     ensures { λ r. ⌜ (now (amounts .exit) ≡ start-amounts (decode (now (file .entry)))) × (r ≡ start-presence (decode (now (file .entry)))) ⌝ }
 {

@@ -1,5 +1,4 @@
 pub mod Nodes
-pub mod Regions
 pub mod Runs
 pub mod Scripts
 pub mod Stores

@@ -1,70 +1,58 @@
 -- What is known of a node that is being run: its record in the file, its cost, and for each kind what its fields name.
 -- Assumes nothing.
-use mathlib.Core.Path.{_≡_, refl, sym, ap, _∙_}
+use mathlib.Core.Path.{_≡_, sym, ap, _∙_}
 use mathlib.Core.List.{List}
 use mathlib.Core.Bool.{true, false, not, _&&_, false≢true, and-false}
 use Prim.Native.Nat.{ℕ, _+_, _*_, _≤_, _<_}
-use native.Mathlib.Nat.{mul-comm}
 use native.Mathlib.Decide.{decLt, ℕ-discrete}
 use native.Mathlib.Omega.{arith}
 use lib.Dec.{eqb, leb, ltb, lit<}
-use lib.ListN.{length, getD}
+use lib.ListN.{length}
 use borrow.Author.Tests.{eqb-true, leb-true, ltb-true, lt-leb, ne-eqb, not-false}
 use Rattle.book.specs.Bytes.{byte, le16, le32, signed32}
-use Rattle.book.specs.Records.{NodeRecord, nodes-format}
-use Rattle.book.specs.Layout.{count, section, decode}
-use Rattle.book.specs.Kinds.{no-kind, expression, command, unused, table, user, region, right, between, cost-of, sort-of, Fields, fields, fields-of}
+use Rattle.book.specs.Records.{NodeRecord, Book, nodes-format}
+use Rattle.book.specs.Kinds.{no-kind, expression, command, unused, table, user, region, right, between, sort-of, Fields, fields, fields-of}
 use Rattle.book.specs.Refusals.{node-at, sorted, field-fits, node-fits, no-node}
-use Rattle.book.specs.Start.{tabulate}
 use Rattle.book.proofs.Chains.{both}
-use Rattle.book.proofs.Decoded.{count-regions, node-read}
-use Rattle.book.proofs.Tabulate.{tabulate-at}
+use Rattle.book.proofs.Records.{length-records, record-at}
 use Rattle.monitor.specs.Labelled.{Label}
 use Rattle.monitor.specs.Syntax.{Cmd, cmd-of}
 use Rattle.monitor.specs.Rules.{eval, exec}
 use Rattle.monitor.specs.Rules as rules
-use Rattle.monitor.specs.Call.{script}
-use Rattle.machine.specs.Ready.{script-of, Runnable, Node}
-use Rattle.machine.specs.Promises.{env, Commands}
-
--- the rules' node is the file's
-pub script-node : (file : List ℕ) (n : ℕ) → node-at (script-of file) n ≡ node-at (decode file) n
-unfolding script
-script-node file n = refl
+use Rattle.machine.specs.Script.{held-count, script-of, Sound, Runnable, Node}
+use Rattle.machine.specs.Promises.{env, Commands, Who}
 
 -- what a node does, once it is known which command it is
-pub command-is : (file : List ℕ) (ctx : Label) (user above n : ℕ) {y : Cmd} → cmd-of (node-at (decode file) n) ≡ y → (fuel : ℕ)
-    → Commands file ctx user above n fuel
-    ≡ rules.command (script-of file) true (eval (script-of file) fuel) (exec (script-of file) true fuel) (env ctx user above) n y
-command-is file ctx user above n e fuel =
-    ap (λ (c : Cmd). rules.command (script-of file) true (eval (script-of file) fuel) (exec (script-of file) true fuel) (env ctx user above) n c)
-    (ap cmd-of (script-node file n) ∙ e)
+pub command-is : (code : List ℕ) (ctx : Label) (who : Who) (n : ℕ) {y : Cmd} → cmd-of (node-at (script-of code) n) ≡ y → (fuel : ℕ)
+    → Commands code ctx who n fuel ≡ rules.command (script-of code) true (eval (script-of code) fuel) (exec (script-of code) true fuel) (env ctx who) n y
+command-is code ctx who n e fuel =
+    ap (λ (c : Cmd). rules.command (script-of code) true (eval (script-of code) fuel) (exec (script-of code) true fuel) (env ctx who) n c) e
 
--- the node's record stands at this byte of the file
-pub record Read (file : List ℕ) (at : ℕ) (x : NodeRecord) : Type 0 where
-  pub kind : byte file at ≡ x .kind
-  pub p : byte file (at + 1) ≡ x .p
-  pub a : le16 file (at + 2) ≡ x .a
-  pub b : le16 file (at + 4) ≡ x .b
-  pub c : le16 file (at + 6) ≡ x .c
-  pub d : le16 file (at + 8) ≡ x .d
-  pub k : signed32 (le32 file (at + 10)) ≡ x .k
-  pub end : at + 16 ≤ length file
-  pub short : length file ≤ 21380
+-- the node's record stands at this byte of the script
+pub record Read (code : List ℕ) (at : ℕ) (x : NodeRecord) : Type 0 where
+  pub kind : byte code at ≡ x .kind
+  pub p : byte code (at + 1) ≡ x .p
+  pub a : le16 code (at + 2) ≡ x .a
+  pub b : le16 code (at + 4) ≡ x .b
+  pub c : le16 code (at + 6) ≡ x .c
+  pub d : le16 code (at + 8) ≡ x .d
+  pub k : signed32 (le32 code (at + 10)) ≡ x .k
+  pub end : at + 16 ≤ length code
+  pub short : at + 16 ≤ 16384
 
 -- a field that names a child: a lower number, and a node of that sort
-pub record Child (sort : ℕ) (file : List ℕ) (n v : ℕ) : Type 0 where
+pub record Child (sort : ℕ) (s : Book) (n v : ℕ) : Type 0 where
   pub lower : v < n
-  pub node : Node sort file v
+  pub node : Node sort s v
 
 -- the checks of the six fields
-pub record Checked (file : List ℕ) (n : ℕ) (u : Fields) : Type 0 where
-  pub sort-is : sort-of (node-at (decode file) n .kind) ≡ no-kind → ⊥
-  pub p : field-fits (decode file) n (u .p) (node-at (decode file) n .p) ≡ true
-  pub a : field-fits (decode file) n (u .a) (node-at (decode file) n .a) ≡ true
-  pub b : field-fits (decode file) n (u .b) (node-at (decode file) n .b) ≡ true
-  pub c : field-fits (decode file) n (u .c) (node-at (decode file) n .c) ≡ true
-  pub d : field-fits (decode file) n (u .d) (node-at (decode file) n .d) ≡ true
+pub record Checked (s : Book) (n : ℕ) (u : Fields) : Type 0 where
+  pub sort-is : sort-of (node-at s n .kind) ≡ no-kind → ⊥
+  pub p : field-fits s n (u .p) (node-at s n .p) ≡ true
+  pub a : field-fits s n (u .a) (node-at s n .a) ≡ true
+  pub b : field-fits s n (u .b) (node-at s n .b) ≡ true
+  pub c : field-fits s n (u .c) (node-at s n .c) ≡ true
+  pub d : field-fits s n (u .d) (node-at s n .d) ≡ true
 
 no-sort : (k : ℕ) → sort-of k ≡ no-kind → not (eqb (sort-of k) no-kind) ≡ true → ⊥
 no-sort k e t = false≢true (sym (ap (λ (m : ℕ). not (eqb m no-kind)) e) ∙ t)
@@ -101,18 +89,19 @@ change-fields-of k e = go (ℕ-discrete k 24)
         let q : k ≡ 25 = omega arith in
         rw q
 
-module _ (file : List ℕ) (v : Runnable file) (n : ℕ) (h : n < count file 3) where
-  abbrev x : NodeRecord
-  x = node-at (decode file) n
+-- ---- the record
 
-  -- ---- the record
+module _ (code : List ℕ) (v : Runnable code) (n : ℕ) (h : n < length (script-of code .nodes)) where
+  few : n < 1024
+  few = omega (arith, v .sound .few-nodes)
 
-  pub read-at : (nodes : ℕ) → nodes ≡ section file 3 .start → Read file (nodes + 16 * n) x
-  unfolding nodes-format
-  read-at nodes e =
-      let all = v .nodes-inside in
-      let end : nodes + 16 * n + 16 ≤ length file = omega arith in
-      let is : x ≡ nodes-format .read file (nodes + 16 * n) = rw (e, mul-comm 16 n) (node-read file n no-node h) in
+  pub read-at : Read code (16 * n) (node-at (script-of code) n)
+  unfolding script-of nodes-format
+  read-at =
+      let count : length (script-of code .nodes) ≡ held-count code 2 = length-records nodes-format _ _ code in
+      let at : 0 + n * 16 ≡ 16 * n = omega arith in
+      let is : node-at (script-of code) n ≡ nodes-format .read code (16 * n) =
+      record-at nodes-format _ 0 code n no-node (omega (arith, h, count)) ∙ ap (nodes-format .read code) at in
       record {
         kind = ap (λ (y : NodeRecord). y .kind) (sym is);
         p = ap (λ (y : NodeRecord). y .p) (sym is);
@@ -121,23 +110,31 @@ module _ (file : List ℕ) (v : Runnable file) (n : ℕ) (h : n < count file 3) 
         c = ap (λ (y : NodeRecord). y .c) (sym is);
         d = ap (λ (y : NodeRecord). y .d) (sym is);
         k = ap (λ (y : NodeRecord). y .k) (sym is);
-        end = end;
-        short = v .short;
+        end = omega (arith, few, v .long);
+        short = omega (arith, few);
       }
 
-  -- ---- the checks
+-- ---- the checks
 
-  checked : Checked file n (fields-of (x .kind))
+module _ (s : Book) (v : Sound s) (n : ℕ) (h : n < length (s .nodes)) where
+  abbrev x : NodeRecord
+  x = node-at s n
+
+  -- its number is one of a node's
+  pub node-below : n < 1024
+  node-below = omega (arith, v .few-nodes)
+
+  checked : Checked s n (fields-of (x .kind))
   unfolding node-fits
   checked =
-      let fits = not-false (node-fits (decode file) n) (v .nodes-ok n h) in
+      let fits = not-false (node-fits s n) (v .nodes-ok n h) in
       let u : Fields = fields-of (x .kind) in
       let sort = both _ _ fits in
-      let p = both (field-fits (decode file) n (u .p) (x .p)) _ (sort .1) in
-      let a = both (field-fits (decode file) n (u .a) (x .a)) _ (p .1) in
-      let b = both (field-fits (decode file) n (u .b) (x .b)) _ (a .1) in
-      let c = both (field-fits (decode file) n (u .c) (x .c)) _ (b .1) in
-      let d = both (field-fits (decode file) n (u .d) (x .d)) _ (c .1) in
+      let p = both (field-fits s n (u .p) (x .p)) _ (sort .1) in
+      let a = both (field-fits s n (u .a) (x .a)) _ (p .1) in
+      let b = both (field-fits s n (u .b) (x .b)) _ (a .1) in
+      let c = both (field-fits s n (u .c) (x .c)) _ (b .1) in
+      let d = both (field-fits s n (u .d) (x .d)) _ (c .1) in
       record {
         sort-is = λ e. no-sort _ e (sort .0);
         p = p .0;
@@ -148,7 +145,7 @@ module _ (file : List ℕ) (v : Runnable file) (n : ℕ) (h : n < count file 3) 
       }
 
   -- the checks for a known kind
-  checked-as : (k : ℕ) → x .kind ≡ k → Checked file n (fields-of k)
+  checked-as : (k : ℕ) → x .kind ≡ k → Checked s n (fields-of k)
   checked-as k e = rw e at checked
 
   pub kind-below : x .kind < 27
@@ -158,18 +155,14 @@ module _ (file : List ℕ) (v : Runnable file) (n : ℕ) (h : n < count file 3) 
       go (yes l) = l
       go (no g) = absurd (checked .sort-is (beyond (x .kind) (omega arith)))
 
-  -- what entering the node costs, from the column of the table
-  pub cost-read : (costs : List ℕ) → costs ≡ tabulate cost-of 27 → getD costs (x .kind) 0 ≡ cost-of (x .kind)
-  cost-read costs e = rw e (tabulate-at cost-of 27 (x .kind) 0 kind-below)
-
-  as-child : (sort w : ℕ) → (ltb w n && sorted (decode file) sort w) ≡ true → Child sort file n w
+  as-child : (sort w : ℕ) → (ltb w n && sorted s sort w) ≡ true → Child sort s n w
   as-child sort w e =
       let q = both (ltb w n) _ e in
       let lower : w < n = ltb-true w n (q .0) in
       record { lower = lower; node = record { inside = omega arith; sort-is = eqb-true _ _ (q .1) } }
 
-  as-region : (w : ℕ) → ltb w (length (decode file .regions)) ≡ true → w < count file 1
-  as-region w e = omega (arith, ltb-true w (length (decode file .regions)) e, count-regions file)
+  as-region : (w : ℕ) → ltb w (length (s .regions)) ≡ true → w < length (s .regions)
+  as-region w e = ltb-true w (length (s .regions)) e
 
   -- ---- each kind's fields
 
@@ -180,39 +173,39 @@ module _ (file : List ℕ) (v : Runnable file) (n : ℕ) (h : n < count file 3) 
 
   -- 3 to 6
   module _ (e : between 3 6 (x .kind) ≡ true) where
-    pair-checked : Checked file n (fields unused expression expression unused unused unused)
+    pair-checked : Checked s n (fields unused expression expression unused unused unused)
     pair-checked = rw (pair-fields-of (x .kind) e) at checked
 
-    pub pair-a : Child expression file n (x .a)
+    pub pair-a : Child expression s n (x .a)
     unfolding field-fits
     pair-a = as-child expression (x .a) (pair-checked .a)
 
-    pub pair-b : Child expression file n (x .b)
+    pub pair-b : Child expression s n (x .b)
     unfolding field-fits
     pair-b = as-child expression (x .b) (pair-checked .b)
 
   -- 8 to 11
   module _ (e : between 8 11 (x .kind) ≡ true) where
-    query-checked : Checked file n (fields table expression expression expression expression unused)
+    query-checked : Checked s n (fields table expression expression expression expression unused)
     query-checked = rw (query-fields-of (x .kind) e) at checked
 
     pub query-p : x .p < 8
     unfolding field-fits
     query-p = ltb-true (x .p) 8 (query-checked .p)
 
-    pub query-a : Child expression file n (x .a)
+    pub query-a : Child expression s n (x .a)
     unfolding field-fits
     query-a = as-child expression (x .a) (query-checked .a)
 
-    pub query-b : Child expression file n (x .b)
+    pub query-b : Child expression s n (x .b)
     unfolding field-fits
     query-b = as-child expression (x .b) (query-checked .b)
 
-    pub query-c : Child expression file n (x .c)
+    pub query-c : Child expression s n (x .c)
     unfolding field-fits
     query-c = as-child expression (x .c) (query-checked .c)
 
-    pub query-d : Child expression file n (x .d)
+    pub query-d : Child expression s n (x .d)
     unfolding field-fits
     query-d = as-child expression (x .d) (query-checked .d)
 
@@ -222,41 +215,41 @@ module _ (file : List ℕ) (v : Runnable file) (n : ℕ) (h : n < count file 3) 
     unfolding fields-of field-fits
     assign-p = ltb-true (x .p) 16 (checked-as 17 e .p)
 
-    pub assign-a : Child expression file n (x .a)
+    pub assign-a : Child expression s n (x .a)
     unfolding fields-of field-fits
     assign-a = as-child expression (x .a) (checked-as 17 e .a)
 
   -- 18 a then b
   module _ (e : x .kind ≡ 18) where
-    pub then-a : Child command file n (x .a)
+    pub then-a : Child command s n (x .a)
     unfolding fields-of field-fits
     then-a = as-child command (x .a) (checked-as 18 e .a)
 
-    pub then-b : Child command file n (x .b)
+    pub then-b : Child command s n (x .b)
     unfolding fields-of field-fits
     then-b = as-child command (x .b) (checked-as 18 e .b)
 
   -- 19 if a nonzero then b else c
   module _ (e : x .kind ≡ 19) where
-    pub if-a : Child expression file n (x .a)
+    pub if-a : Child expression s n (x .a)
     unfolding fields-of field-fits
     if-a = as-child expression (x .a) (checked-as 19 e .a)
 
-    pub if-b : Child command file n (x .b)
+    pub if-b : Child command s n (x .b)
     unfolding fields-of field-fits
     if-b = as-child command (x .b) (checked-as 19 e .b)
 
-    pub if-c : Child command file n (x .c)
+    pub if-c : Child command s n (x .c)
     unfolding fields-of field-fits
     if-c = as-child command (x .c) (checked-as 19 e .c)
 
   -- 20 while a nonzero do b
   module _ (e : x .kind ≡ 20) where
-    pub while-a : Child expression file n (x .a)
+    pub while-a : Child expression s n (x .a)
     unfolding fields-of field-fits
     while-a = as-child expression (x .a) (checked-as 20 e .a)
 
-    pub while-b : Child command file n (x .b)
+    pub while-b : Child command s n (x .b)
     unfolding fields-of field-fits
     while-b = as-child command (x .b) (checked-as 20 e .b)
 
@@ -266,15 +259,15 @@ module _ (file : List ℕ) (v : Runnable file) (n : ℕ) (h : n < count file 3) 
     unfolding fields-of field-fits
     put-p = ltb-true (x .p) 8 (checked-as 21 e .p)
 
-    pub put-a : Child expression file n (x .a)
+    pub put-a : Child expression s n (x .a)
     unfolding fields-of field-fits
     put-a = as-child expression (x .a) (checked-as 21 e .a)
 
-    pub put-b : Child expression file n (x .b)
+    pub put-b : Child expression s n (x .b)
     unfolding fields-of field-fits
     put-b = as-child expression (x .b) (checked-as 21 e .b)
 
-    pub put-c : Child expression file n (x .c)
+    pub put-c : Child expression s n (x .c)
     unfolding fields-of field-fits
     put-c = as-child expression (x .c) (checked-as 21 e .c)
 
@@ -284,11 +277,11 @@ module _ (file : List ℕ) (v : Runnable file) (n : ℕ) (h : n < count file 3) 
     unfolding fields-of field-fits
     clear-p = ltb-true (x .p) 8 (checked-as 22 e .p)
 
-    pub clear-a : Child expression file n (x .a)
+    pub clear-a : Child expression s n (x .a)
     unfolding fields-of field-fits
     clear-a = as-child expression (x .a) (checked-as 22 e .a)
 
-    pub clear-b : Child expression file n (x .b)
+    pub clear-b : Child expression s n (x .b)
     unfolding fields-of field-fits
     clear-b = as-child expression (x .b) (checked-as 22 e .b)
 
@@ -298,20 +291,20 @@ module _ (file : List ℕ) (v : Runnable file) (n : ℕ) (h : n < count file 3) 
     unfolding fields-of field-fits
     out-p = ltb-true (x .p) 8 (checked-as 23 e .p)
 
-    pub out-a : Child expression file n (x .a)
+    pub out-a : Child expression s n (x .a)
     unfolding fields-of field-fits
     out-a = as-child expression (x .a) (checked-as 23 e .a)
 
   -- 24 grant, 25 revoke region a for user p
   module _ (e : between 24 25 (x .kind) ≡ true) where
-    change-checked : Checked file n (fields user region right unused unused unused)
+    change-checked : Checked s n (fields user region right unused unused unused)
     change-checked = rw (change-fields-of (x .kind) e) at checked
 
     pub change-p : x .p < 8
     unfolding field-fits
     change-p = ltb-true (x .p) 8 (change-checked .p)
 
-    pub change-a : x .a < count file 1
+    pub change-a : x .a < length (s .regions)
     unfolding field-fits
     change-a = as-region (x .a) (change-checked .a)
 
@@ -325,6 +318,6 @@ module _ (file : List ℕ) (v : Runnable file) (n : ℕ) (h : n < count file 3) 
     unfolding fields-of field-fits
     raise-p = ltb-true (x .p) 16 (checked-as 26 e .p)
 
-    pub raise-a : x .a < count file 1
+    pub raise-a : x .a < length (s .regions)
     unfolding fields-of field-fits
     raise-a = as-region (x .a) (checked-as 26 e .a)

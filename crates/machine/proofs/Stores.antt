@@ -1,24 +1,25 @@
--- A store into lent arrays is an update of the rules' functions. Assumes nothing.
+-- A store into the arrays of a run is an update of the rules' functions. Assumes nothing.
 use mathlib.Core.Path.{_≡_, refl, sym, ap, _∙_}
 use mathlib.Core.List.{List, []}
 use mathlib.Core.Bool.{Bool, true, false, _&&_, _||_, not, cond}
-use Prim.Native.Nat.{ℕ, _+_, _-_, _*_, _/_, _%_, _≤_, _<_}
-use native.Mathlib.Decide.{ℕ-discrete}
+use Prim.Native.Nat.{ℕ, _+_, _/_, _%_, _≤_, _<_}
+use native.Mathlib.Decide.{ℕ-discrete, decLt}
+use native.Mathlib.Nat.{not-suc-le-zero}
 use native.Mathlib.Omega.{arith}
-use borrow.Author.Tests.{eq-eqb, ne-eqb, lt-ltb}
+use borrow.Author.Tests.{eq-eqb, ne-eqb, lt-ltb, le-ltb}
 use lib.Bits.{bitOr}
 use lib.Dec.{eqb, ltb}
 use lib.IntN.{ℤ, pos}
-use lib.ListN.{length, getD, set, take, length-append, length-drop, drop-of-length-le}
-use lib.Seq.{getD-set-same, getD-set-other, length-take-le}
+use lib.ListN.{length, getD, set, length-set, List·getD-eq-default}
+use lib.Seq.{getD-set-same, getD-set-other}
 use Rattle.places.specs.Sets.{bit, has, single, union, without, difference}
-use Rattle.labels.specs.Labels.{label-at, set-label}
 use Rattle.places.proofs.Sets.{union-word, difference-word, has-union, has-difference, has-single}
-use Rattle.labels.proofs.Labels.{label-same, label-other}
+use Rattle.book.specs.Start.{tabulate}
+use Rattle.book.proofs.Tabulate.{length-tabulate, tabulate-at}
 use Rattle.monitor.specs.Labelled.{Label}
 use Rattle.monitor.specs.Run.{update}
-use Rattle.monitor.specs.Call.{cells-of}
-use Rattle.machine.specs.Store.{vars-of, cell}
+use Rattle.monitor.specs.Call.{rows}
+use Rattle.machine.specs.Store.{row-at, present-row, public-row, read-row, write-row, label-row, users-rows, Replaces, cells-held, rights-in, vars-of, cell}
 
 -- the update of f at p is what holds a at p and else what f holds
 pub updated : {A : Type 0} {f g : ℕ → A} {p : ℕ} {a : A} → g p ≡ a → ((q : ℕ) → (q ≡ p → ⊥) → g q ≡ f q) → g ≡ update f p a
@@ -29,37 +30,102 @@ updated {f = f} {g = g} {p = p} {a = a} here elsewhere = λ i q. at q (ℕ-discr
     at q (yes e) = rw (e, eq-eqb p p refl) here
     at q (no d) = rw (ne-eqb q p d) (elsewhere q d)
 
+-- ---- a row that is stored: it is read back, and the other rows stay
+
+module _ (sets : List (List ℕ)) (i : ℕ) (label : Label) where
+  pub row-same : i < length sets → row-at (set sets i label) i ≡ label
+  row-same h = getD-set-same sets i label [] h
+
+  pub row-other : (j : ℕ) → (j ≡ i → ⊥) → row-at (set sets i label) j ≡ row-at sets j
+  row-other j d = getD-set-other sets i j label [] d
+
+-- ---- the users' sets
+
+-- they are f where their rows are, and f has nothing for other users
+pub users-are : (sets : List (List ℕ)) (first : ℕ) (f : ℕ → Label)
+    → ((user : ℕ) → user < 8 → row-at sets (first + user) ≡ f user) → ((user : ℕ) → 8 ≤ user → f user ≡ []) → users-rows sets first ≡ f
+unfolding users-rows
+users-are sets first f inside outside = λ i user. at user (decLt user 8) i
+  where
+    at : (user : ℕ) → Dec (user < 8) → cond (ltb user 8) (row-at sets (first + user)) [] ≡ f user
+    at user (yes h) = rw (lt-ltb user 8 h) (inside user h)
+    at user (no h) =
+        let g : 8 ≤ user = omega arith in
+        rw (le-ltb user 8 g) (sym (outside user g))
+
+pub no-user : (sets : List (List ℕ)) (first user : ℕ) → 8 ≤ user → users-rows sets first user ≡ []
+unfolding users-rows
+no-user sets first user h = rw (le-ltb user 8 h)
+
+pub user-row : (sets : List (List ℕ)) (first user : ℕ) → user < 8 → users-rows sets first user ≡ row-at sets (first + user)
+unfolding users-rows
+user-row sets first user h = rw (lt-ltb user 8 h)
+
+-- rows that stay leave them
+pub users-same : (sets sets' : List (List ℕ)) (first : ℕ) → ((user : ℕ) → user < 8 → row-at sets' (first + user) ≡ row-at sets (first + user))
+    → users-rows sets' first ≡ users-rows sets first
+users-same sets sets' first e =
+    users-are sets' first (users-rows sets first) (λ user h. e user h ∙ sym (user-row sets first user h)) (λ user h. no-user sets first user h)
+
+-- rows that are replaced are the new ones
+pub users-replaced : (sets sets' : List (List ℕ)) (first : ℕ) (users : ℕ → Label) → Replaces sets first users sets' → ((user : ℕ) → 8 ≤ user → users user ≡ [])
+    → users-rows sets' first ≡ users
+users-replaced sets sets' first users r none = users-are sets' first users (r .new) none
+
+-- as a table
+pub users-table : (sets : List (List ℕ)) (first : ℕ) → users-rows sets first ≡ rows (tabulate (λ user. row-at sets (first + user)) 8)
+unfolding rows
+users-table sets first =
+    let f : ℕ → Label = λ user. row-at sets (first + user) in
+    users-are sets first (rows (tabulate f 8)) (λ user h. sym (tabulate-at f 8 user [] h)) (λ user h. List·getD-eq-default (tabulate f 8) [] (omega (arith, h, length-tabulate f 8)))
+
+-- the first `user` of the rows are replaced
+pub record Replacing (sets : List (List ℕ)) (first : ℕ) (users : ℕ → Label) (user : ℕ) (sets' : List (List ℕ)) : Type 0 where
+  pub long : length sets' ≡ length sets
+  pub new : (u : ℕ) → u < user → row-at sets' (first + u) ≡ users u
+  pub before : (i : ℕ) → i < first → row-at sets' i ≡ row-at sets i
+  pub after : (i : ℕ) → first + user ≤ i → row-at sets' i ≡ row-at sets i
+
+module _ (sets : List (List ℕ)) (first : ℕ) (users : ℕ → Label) where
+  pub replacing-none : Replacing sets first users 0 sets
+  replacing-none = record { long = refl; new = λ u h. absurd (not-suc-le-zero h); before = λ i h. refl; after = λ i h. refl }
+
+  pub replacing-more : {user : ℕ} {sets' : List (List ℕ)} → Replacing sets first users user sets' → first + user < length sets
+      → Replacing sets first users (user + 1) (set sets' (first + user) (users user))
+  replacing-more {user} {sets'} r h = record {
+    long = length-set sets' (first + user) (users user) ∙ r .long;
+    new = λ u l. at u (ℕ-discrete u user) l;
+    before = λ i l. row-other sets' (first + user) (users user) i (λ e. omega (arith, e, l)) ∙ r .before i l;
+    after = λ i l. row-other sets' (first + user) (users user) i (λ e. omega (arith, e, l)) ∙ r .after i (omega (arith, l));
+  }
+    where
+      at : (u : ℕ) → Dec (u ≡ user) → u < user + 1 → row-at (set sets' (first + user) (users user)) (first + u) ≡ users u
+      at u (yes e) l = rw e (row-same sets' (first + user) (users user) (omega (arith, h, r .long)))
+      at u (no d) l = row-other sets' (first + user) (users user) (first + u) (λ e. d (omega (arith, e))) ∙ r .new u (omega (arith, l, d))
+
+  pub replacing-all : {sets' : List (List ℕ)} → Replacing sets first users 8 sets' → Replaces sets first users sets'
+  replacing-all r = record { new = r .new; before = r .before; after = r .after }
+
 -- ---- variables
 
-module _ (vars : List ℤ) (tags : List ℕ) (p : ℕ) where
+module _ (vars : List ℤ) (tags : List (List ℕ)) (p : ℕ) where
   -- a value and its label
-  pub vars-stored : (z : ℤ) (label : Label) → p < length vars → 8 * p + 8 ≤ length tags → length label ≡ 8
-      → vars-of (set vars p z) (set-label tags p label) ≡ update (vars-of vars tags) p (record { val = z; lab = label })
+  pub vars-stored : (z : ℤ) (label : Label) → p < length vars → p < length tags
+      → vars-of (set vars p z) (set tags p label) ≡ update (vars-of vars tags) p (record { val = z; lab = label })
   unfolding vars-of
-  vars-stored z label h l e =
-      updated (rw (getD-set-same vars p z (pos 0) h, label-same tags label p l e)) (λ q d. rw (getD-set-other vars p q z (pos 0) d, label-other tags label p q l e d))
+  vars-stored z label h l =
+      updated (rw (getD-set-same vars p z (pos 0) h, row-same tags p label l)) (λ q d. rw (getD-set-other vars p q z (pos 0) d, row-other tags p label q d))
 
   -- a value alone
-  pub value-stored : (z : ℤ) → p < length vars → vars-of (set vars p z) tags ≡ update (vars-of vars tags) p (record { val = z; lab = label-at tags p })
+  pub value-stored : (z : ℤ) → p < length vars → vars-of (set vars p z) tags ≡ update (vars-of vars tags) p (record { val = z; lab = row-at tags p })
   unfolding vars-of
   value-stored z h = updated (rw (getD-set-same vars p z (pos 0) h)) (λ q d. rw (getD-set-other vars p q z (pos 0) d))
 
   -- a label alone
-  pub label-stored : (label : Label) → 8 * p + 8 ≤ length tags → length label ≡ 8
-      → vars-of vars (set-label tags p label) ≡ update (vars-of vars tags) p (record { val = vars-of vars tags p .val; lab = label })
+  pub label-stored : (label : Label) → p < length tags
+      → vars-of vars (set tags p label) ≡ update (vars-of vars tags) p (record { val = getD vars p (pos 0); lab = label })
   unfolding vars-of
-  label-stored label l e = updated (rw (label-same tags label p l e)) (λ q d. rw (label-other tags label p q l e d))
-
--- a label whose store keeps the number of words has eight
-pub label-length : (labels : List ℕ) (p : ℕ) (label : Label) → 8 * p + 8 ≤ length labels → length (set-label labels p label) ≡ length labels → length label ≡ 8
-label-length labels p label h e =
-    let n : length (set-label labels p label) ≡ 8 * p + length label + (length labels - (8 * p + 8)) =
-    rw (length-append, length-append, length-drop (8 * p + 8) labels, length-take-le (8 * p) labels (omega arith)) in
-    omega arith
-
--- past the last label there is none
-pub no-label : (labels : List ℕ) (p : ℕ) → length labels ≤ 8 * p → label-at labels p ≡ []
-no-label labels p h = ap (take 8) (drop-of-length-le labels {i = 8 * p} h)
+  label-stored label l = updated (rw (row-same tags p label l)) (λ q d. rw (row-other tags p label q d))
 
 -- ---- cells
 
@@ -113,13 +179,51 @@ module _ (presence : List ℕ) (q : ℕ) (h : q < 512) (l : length presence ≡ 
       go (yes e) = in-word put j e ∙ rw (has-single 8 q j, ne-eqb j q d) (kept put (has presence j) (ltb j 512))
       go (no e) = same-word (marked put) presence j (getD-set-other presence (q / 64) (j / 64) _ 0 e)
 
-  -- a cell: its amount, its presence and its label
-  pub cell-stored : (amounts : List ℤ) (labels : List ℕ) (event : ℕ) (z : ℤ) (label : Label) → length amounts ≡ 512 → length labels ≡ 4096 → length label ≡ 8
-      → cells-of (set amounts q z) (marked (eqb event 1)) (set-label labels q label)
-      ≡ update (cells-of amounts presence labels) q (record { val = cell event z; lab = label })
-  unfolding cells-of
-  cell-stored amounts labels event z label la ll e =
-      let inside : 8 * q + 8 ≤ length labels = omega arith in
+-- the write of a cell: its amount, its presence and its label, each a store at one index
+module _ (sets : List (List ℕ)) (q event : ℕ) (label : Label) (h : q < 512) (l : length (row-at sets present-row) ≡ 8) (long : length sets ≡ 530) where
+  abbrev words : List ℕ
+  words = marked (row-at sets present-row) q h l (eqb event 1)
+
+  abbrev pub written : List (List ℕ)
+  written = set (set sets present-row words) (label-row + q) label
+
+  all-rows : length (set sets present-row words) ≡ 530
+  all-rows = length-set sets present-row words ∙ long
+
+  present-is : row-at written present-row ≡ words
+  present-is =
+      row-other (set sets present-row words) (label-row + q) label present-row (λ e. omega (arith, e))
+      ∙ row-same sets present-row words (omega arith)
+
+  -- a row that is neither
+  other-row : (j : ℕ) → 0 < j → (j ≡ label-row + q → ⊥) → row-at written j ≡ row-at sets j
+  other-row j p d =
+      row-other (set sets present-row words) (label-row + q) label j d
+      ∙ row-other sets present-row words j (λ e. omega (arith, e))
+
+  pub cell-stored : (amounts : List ℤ) (z : ℤ) → length amounts ≡ 512
+      → cells-held (set amounts q z) written ≡ update (cells-held amounts sets) q (record { val = cell event z; lab = label })
+  unfolding cells-held
+  cell-stored amounts z la =
       updated
-      (rw (has-here (eqb event 1), getD-set-same amounts q z (pos 0) (omega arith), label-same labels label q inside e))
-      (λ j d. rw (has-elsewhere (eqb event 1) j d, getD-set-other amounts q j z (pos 0) d, label-other labels label q j inside e d))
+      (rw (
+        present-is,
+        has-here (row-at sets present-row) q h l (eqb event 1),
+        getD-set-same amounts q z (pos 0) (omega arith),
+        row-same (set sets present-row words) (label-row + q) label (omega (arith, all-rows)),
+      ))
+      (λ j d. rw (
+        present-is,
+        has-elsewhere (row-at sets present-row) q h l (eqb event 1) j d,
+        getD-set-other amounts q j z (pos 0) d,
+        other-row (label-row + j) (omega arith) (λ e. d (omega (arith, e))),
+      ))
+
+  pub rights-stay : rights-in written ≡ rights-in sets
+  rights-stay = rw (
+    users-same sets written read-row (λ user b. other-row (read-row + user) (omega arith) (λ e. omega (arith, e))),
+    users-same sets written write-row (λ user b. other-row (write-row + user) (omega arith) (λ e. omega (arith, e))),
+  )
+
+  pub public-stays : row-at written public-row ≡ row-at sets public-row
+  public-stays = other-row public-row (omega arith) (λ e. omega (arith, e))

@@ -25,7 +25,7 @@ unfolding trace-bytes
 length-bytes [] = refl
 length-bytes (r ∷ records) = omega (arith, length-append (record-bytes r) (trace-bytes records), length-record r, length-bytes records)
 
-pub bytes-append : (a b : List Rec) → trace-bytes (a ++ b) ≡ trace-bytes a ++ trace-bytes b
+bytes-append : (a b : List Rec) → trace-bytes (a ++ b) ≡ trace-bytes a ++ trace-bytes b
 unfolding trace-bytes
 bytes-append [] b = refl
 bytes-append (r ∷ a) b =
@@ -88,7 +88,7 @@ module _ (trace : List ℕ) (used : ℕ) where
     some-room = le-leb 1 (room-in trace used) (omega arith)
 
     -- a record takes the room of one
-    pub room-less : (length trace - used) / 8 - 1 ≡ (length trace - (used + 8)) / 8
+    room-less : (length trace - used) / 8 - 1 ≡ (length trace - (used + 8)) / 8
     room-less = omega arith
 
     pub room-after : (r : Rec) → room-in trace used - 1 ≡ room-in (with-records trace used (r ∷ [])) (used + 8)

@@ -1,4 +1,4 @@
 pub mod Promises
-pub mod Ready
+pub mod Script
 pub mod Store
 pub mod Writes

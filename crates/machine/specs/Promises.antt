@@ -3,113 +3,110 @@
 use mathlib.Core.Path.{_≡_}
 use mathlib.Core.List.{List, []}
 use mathlib.Core.Bool.{true}
-use Prim.Native.Nat.{ℕ, _+_, _*_, _≤_}
+use Prim.Native.Nat.{ℕ, _+_, _-_, _*_, _≤_, _<_}
 use lib.IntN.{ℤ}
-use lib.ListN.{length}
+use lib.ListN.{length, getD}
+use Rattle.places.specs.Sets.{union}
 use Rattle.book.specs.Refusals.{node-at}
 use Rattle.monitor.specs.Labelled.{Label, bottom, Lab}
-use Rattle.monitor.specs.Run.{Cell, Rights, State, Rec, Out, done, stop, M}
+use Rattle.monitor.specs.Run.{Cell, Rights, State, Rec, Halt, Out, done, stop, M}
 use Rattle.monitor.specs.Syntax.{exp-of, cmd-of}
 use Rattle.monitor.specs.Rules.{Env, expr, eval, command, exec}
-use Rattle.machine.specs.Ready.{script-of}
-use Rattle.machine.specs.Store.{Store, store, state, with-records}
+use Rattle.machine.specs.Script.{script-of}
+use Rattle.machine.specs.Store.{row-at, public-row, left-of, used-of, number-of, node-of, Store, state, with-records}
 use Rattle.machine.specs.declared.Value.{Value}
 use Rattle.machine.specs.declared.Value.the-variants as value
-use Rattle.machine.specs.declared.Valued.{Valued}
 use Rattle.machine.specs.declared.Outcome.{Outcome}
 use Rattle.machine.specs.declared.Outcome.the-variants.{Done, Stopped}
-use Rattle.machine.specs.declared.Ran.{Ran}
+
+-- ---- the numbers of a run
+
+-- the run's numbers with a stop in them
+pub record Stops (run : List ℕ) (number node : ℕ) (run' : List ℕ) : Type 0 where
+  pub left-same : left-of run' ≡ left-of run
+  pub used-same : used-of run' ≡ used-of run
+  pub number-is : number-of run' ≡ number
+  pub node-is : node-of run' ≡ node
+
+-- a cost is paid
+pub record Paid (run : List ℕ) (cost : ℕ) (run' : List ℕ) : Type 0 where
+  pub enough : cost ≤ left-of run
+  pub left-is : left-of run' ≡ left-of run - cost
+  pub used-same : used-of run' ≡ used-of run
+
+-- or there is not enough left for it: 21
+pub record Short (run : List ℕ) (cost node : ℕ) (run' : List ℕ) : Type 0 where
+  pub lacks : left-of run < cost
+  pub stops : Stops run 21 node run'
+
+pub record Pays (run : List ℕ) (cost node : ℕ) (r : Outcome) (run' : List ℕ) : Type 0 where
+  pub paid : r ≡ Done → Paid run cost run'
+  pub short : r ≡ Stopped → Short run cost node run'
+
+-- the stop that they hold; the label that stood in its way is the rules' own
+abbrev pub halted : List ℕ → Label → Halt
+halted run obstacle = record { number = number-of run; node = node-of run; obstacle = obstacle }
 
 -- ---- expressions
 
 -- an expression's answer as the rules' end; it writes no record, and its stops, 21 and 22, are not about labels
-unfoldable pub given : Value → Label → State → Out (Lab ℤ)
-given (value.Known z) label s = done [] (record { val = z; lab = label }) s
-given (value.Stopped number node) label s = stop [] (record { number = number; node = node; obstacle = bottom }) s
+unfoldable pub given : Value → Label → List ℕ → State → Out (Lab ℤ)
+given (value.Known z) label run s = done [] (record { val = z; lab = label }) s
+given value.Stopped label run s = stop [] (halted run bottom) s
 
--- With any fuel that is at least what is left of the budget, m gives this answer. Rights and room do not bear on it.
-pub record Gives (m : ℕ → M (Lab ℤ)) (cells : ℕ → Lab Cell) (vars : ℕ → Lab ℤ) (left : ℕ) (r : Valued) : Type 0 where
-  pub is : (fuel : ℕ) → left ≤ fuel → (rights : Rights) (room : ℕ)
-      → m fuel (record { cells = cells; vars = vars; rights = rights; left = left; room = room })
-      ≡ given (r .answer) (r .label) (record { cells = cells; vars = vars; rights = rights; left = r .left; room = room })
-  pub within : r .left ≤ left
+-- With any fuel that is at least what is left of the budget, m gives this answer with some label. Rights and room do not bear on it. Where
+-- the value is known, the lent label became its union with that label; after a stop nobody looks at it, so nothing is said.
+pub record Gives (m : ℕ → M (Lab ℤ)) (cells : ℕ → Lab Cell) (vars : ℕ → Lab ℤ) (run : List ℕ) (before : Label) (r : Value) (run' : List ℕ) (after : Label) : Type 0 where
+  pub label : Label
+  pub is : (fuel : ℕ) → left-of run ≤ fuel → (rights : Rights) (room : ℕ)
+      → m fuel (record { cells = cells; vars = vars; rights = rights; left = left-of run; room = room })
+      ≡ given r label run' (record { cells = cells; vars = vars; rights = rights; left = left-of run'; room = room })
+  pub within : left-of run' ≤ left-of run
+  pub used-same : used-of run' ≡ used-of run
+  pub joined : {z : ℤ} → r ≡ value.Known z → after ≡ union before label
 
 -- expression n, and what it gives once its own cost is paid
 abbrev pub Evaluates : List ℕ → ℕ → ℕ → M (Lab ℤ)
-Evaluates file n fuel = eval (script-of file) fuel n
+Evaluates code n fuel = eval (script-of code) fuel n
 
 abbrev pub Expresses : List ℕ → ℕ → ℕ → M (Lab ℤ)
-Expresses file n fuel = expr (eval (script-of file) fuel) n (exp-of (node-at (script-of file) n))
+Expresses code n fuel = expr (eval (script-of code) fuel) n (exp-of (node-at (script-of code) n))
 
 -- ---- commands
 
-abbrev pub ran : Outcome → ℕ → ℕ → Ran
-ran outcome left used = record { outcome = outcome; left = left; used = used }
-
--- the stop of an expression as that of the command which needed its value
-unfoldable pub stop-of : Value → Outcome
-stop-of (value.Known z) = Done
-stop-of (value.Stopped number node) = Stopped number node
-
 -- the end of a command as the rules' end
-unfoldable pub ended : Outcome → Label → List Rec → State → Out (Unit {0})
-ended Done obstacle records s = done records tt s
-ended (Stopped number node) obstacle records s = stop records (record { number = number; node = node; obstacle = obstacle }) s
+unfoldable pub ended : Outcome → List ℕ → Label → List Rec → State → Out (Unit {0})
+ended Done run obstacle records s = done records tt s
+ended Stopped run obstacle records s = stop records (halted run obstacle) s
 
--- m goes from one state to another and writes these records; the label that stood in the way of a stop is the rules' own
-pub record Ends (m : M (Unit {0})) (s : State) (records : List Rec) (r : Outcome) (s' : State) : Type 0 where
-  pub obstacle : Label
-  pub is : m s ≡ ended r obstacle records s'
-
--- With any fuel that is at least what is left of the budget, m goes from these variables and this store to those, with the answer r;
--- the records that it writes are the new bytes of the trace.
-pub record Does (m : ℕ → M (Unit {0})) (vars : ℕ → Lab ℤ) (x : Store) (left used : ℕ) (r : Ran) (vars' : ℕ → Lab ℤ) (x' : Store) : Type 0 where
+-- With any fuel that is at least what is left of the budget, m goes from these variables and this store to those, with the answer r; the
+-- records that it writes are the new bytes of the trace, and the public set stays.
+pub record Does (m : ℕ → M (Unit {0})) (vars : ℕ → Lab ℤ) (x : Store) (r : Outcome) (vars' : ℕ → Lab ℤ) (x' : Store) : Type 0 where
   pub records : List Rec
   pub obstacle : Label
-  pub is : (fuel : ℕ) → left ≤ fuel → m fuel (state vars x left used) ≡ ended (r .outcome) obstacle records (state vars' x' (r .left) (r .used))
-  pub trace-is : x' .trace ≡ with-records (x .trace) used records
-  pub used-is : r .used ≡ used + 8 * length records
-  pub fits : r .used ≤ length (x .trace)
-  pub within : r .left ≤ left
+  pub is : (fuel : ℕ) → left-of (x .run) ≤ fuel → m fuel (state vars x) ≡ ended r (x' .run) obstacle records (state vars' x')
+  pub trace-is : x' .trace ≡ with-records (x .trace) (used-of (x .run)) records
+  pub used-is : used-of (x' .run) ≡ used-of (x .run) + 8 * length records
+  pub fits : used-of (x' .run) ≤ length (x .trace)
+  pub within : left-of (x' .run) ≤ left-of (x .run)
+  pub public-same : row-at (x' .sets) public-row ≡ row-at (x .sets) public-row
 
--- a write and its triggers: whatever the variables are, they stay
-pub record DoesAside (m : ℕ → M (Unit {0})) (x : Store) (left used : ℕ) (r : Ran) (x' : Store) : Type 0 where
-  pub does : (vars : ℕ → Lab ℤ) → Does m vars x left used r vars x'
-  pub fits : r .used ≤ length (x .trace)
-  pub within : r .left ≤ left
+-- who runs a command: the user, and the least number of a trigger that its writes fire
+pub record Who : Type 0 where
+  pub user : ℕ
+  pub above : ℕ
 
-abbrev pub env : Label → ℕ → ℕ → Env
-env ctx user above = record { ctx = ctx; user = user; above = above }
+-- as it is lent
+abbrev pub who-of : List ℕ → Who
+who-of who = record { user = getD who 0 0; above = getD who 1 0 }
+
+abbrev pub env : Label → Who → Env
+env ctx who = record { ctx = ctx; user = who .user; above = who .above }
 
 -- command n, and what it does once its own cost is paid
-abbrev pub Enters : List ℕ → Label → ℕ → ℕ → ℕ → ℕ → M (Unit {0})
-Enters file ctx user above n fuel = exec (script-of file) true fuel (env ctx user above) n
+abbrev pub Enters : List ℕ → Label → Who → ℕ → ℕ → M (Unit {0})
+Enters code ctx who n fuel = exec (script-of code) true fuel (env ctx who) n
 
-abbrev pub Commands : List ℕ → Label → ℕ → ℕ → ℕ → ℕ → M (Unit {0})
-Commands file ctx user above n fuel =
-    command (script-of file) true (eval (script-of file) fuel) (exec (script-of file) true fuel) (env ctx user above) n (cmd-of (node-at (script-of file) n))
-
--- an assignment: it looks at the cells and changes variables, whatever the user, the rights and the trace
-pub record Assigns (file : List ℕ) (ctx : Label) (n left used : ℕ) (amounts : List ℤ) (presence labels : List ℕ) (vars : ℕ → Lab ℤ) (r : Ran) (vars' : ℕ → Lab ℤ) : Type 0 where
-  pub does : (user above : ℕ) (read write : List (List ℕ)) (trace : List ℕ) → used ≤ length trace
-      → Does (Commands file ctx user above n) vars (store amounts presence labels read write trace) left used r vars' (store amounts presence labels read write trace)
-  pub same : r .used ≡ used
-  pub within : r .left ≤ left
-
--- a raise: it does not look at the cells either
-pub record Raises (file : List ℕ) (ctx : Label) (n left used : ℕ) (vars : ℕ → Lab ℤ) (r : Ran) (vars' : ℕ → Lab ℤ) : Type 0 where
-  pub assigns : (amounts : List ℤ) (presence labels : List ℕ) → Assigns file ctx n left used amounts presence labels vars r vars'
-  pub same : r .used ≡ used
-  pub within : r .left ≤ left
-
--- an out: it looks at variables, cells and read sets, and writes the trace
-pub record Tells (file : List ℕ) (ctx : Label) (n left used : ℕ) (vars : ℕ → Lab ℤ) (amounts : List ℤ) (presence labels : List ℕ) (read : List (List ℕ)) (trace : List ℕ) (r : Ran) (trace' : List ℕ) : Type 0 where
-  pub does : (user above : ℕ) (write : List (List ℕ))
-      → Does (Commands file ctx user above n) vars (store amounts presence labels read write trace) left used r vars (store amounts presence labels read write trace')
-  pub within : r .left ≤ left
-
--- a grant or a revoke: it changes the rights and writes the trace
-pub record Changes (file : List ℕ) (ctx : Label) (user n left used : ℕ) (read write : List (List ℕ)) (trace : List ℕ) (r : Ran) (read' write' : List (List ℕ)) (trace' : List ℕ) : Type 0 where
-  pub does : (above : ℕ) (vars : ℕ → Lab ℤ) (amounts : List ℤ) (presence labels : List ℕ)
-      → Does (Commands file ctx user above n) vars (store amounts presence labels read write trace) left used r vars (store amounts presence labels read' write' trace')
-  pub within : r .left ≤ left
+abbrev pub Commands : List ℕ → Label → Who → ℕ → ℕ → M (Unit {0})
+Commands code ctx who n fuel =
+    command (script-of code) true (eval (script-of code) fuel) (exec (script-of code) true fuel) (env ctx who) n (cmd-of (node-at (script-of code) n))

@@ -1,51 +1,103 @@
--- The arrays and slices of a running call, as the state of the rules.
-use mathlib.Core.List.{List, _++_}
-use Prim.Native.Nat.{ℕ, _+_, _-_, _*_, _/_}
-use lib.Dec.{eqb}
+-- The arrays and slices of a run, as the state of the rules.
+use mathlib.Core.Path.{_≡_}
+use mathlib.Core.List.{List, [], _++_}
+use mathlib.Core.Bool.{cond}
+use Prim.Native.Nat.{ℕ, _+_, _-_, _*_, _/_, _≤_, _<_}
+use lib.Dec.{eqb, ltb}
 use lib.IntN.{ℤ, pos}
 use lib.ListN.{length, getD, take, drop}
-use Rattle.labels.specs.Labels.{label-at}
-use Rattle.monitor.specs.Labelled.{Lab}
+use Rattle.places.specs.Sets.{has}
+use Rattle.book.specs.Start.{public-set}
+use Rattle.monitor.specs.Labelled.{Label, Lab}
 use Rattle.monitor.specs.Run.{Cell, Rights, State, Rec}
-use Rattle.monitor.specs.Call.{cells-of, rows, trace-bytes}
+use Rattle.monitor.specs.Call.{trace-bytes}
+use Rattle.machine.specs.Script.{script-of, Runnable}
 
--- the sixteen variables: their values, and eight label words for each
-unfoldable pub vars-of : List ℤ → List ℕ → ℕ → Lab ℤ
-vars-of vars tags p = record { val = getD vars p (pos 0); lab = label-at tags p }
+-- ---- the sets: each a row
+
+abbrev pub row-at : List (List ℕ) → ℕ → Label
+row-at sets i = getD sets i []
+
+-- the places that are present, and those that are public
+abbrev pub present-row : ℕ
+present-row = 0
+
+abbrev pub public-row : ℕ
+public-row = 1
+
+-- the first of the eight users' read sets, and of their write sets
+abbrev pub read-row : ℕ
+read-row = 2
+
+abbrev pub write-row : ℕ
+write-row = 10
+
+-- the label of the first cell
+abbrev pub label-row : ℕ
+label-row = 18
+
+-- the sets of the eight users from row `first` on; there are no other users
+unfoldable pub users-rows : List (List ℕ) → ℕ → ℕ → Label
+users-rows sets first user = cond (ltb user 8) (row-at sets (first + user)) []
+
+-- sets' has these sets of the eight users from row `first` on, and else the rows of `sets`
+pub record Replaces (sets : List (List ℕ)) (first : ℕ) (users : ℕ → Label) (sets' : List (List ℕ)) : Type 0 where
+  pub new : (user : ℕ) → user < 8 → row-at sets' (first + user) ≡ users user
+  pub before : (i : ℕ) → i < first → row-at sets' i ≡ row-at sets i
+  pub after : (i : ℕ) → first + 8 ≤ i → row-at sets' i ≡ row-at sets i
+
+-- the cells: 512 amounts, and of the sets the present places and the labels
+unfoldable pub cells-held : List ℤ → List (List ℕ) → ℕ → Lab Cell
+cells-held amounts sets q =
+    record { val = record { present = has (row-at sets present-row) q; amount = getD amounts q (pos 0) }; lab = row-at sets (label-row + q) }
+
+abbrev pub rights-in : List (List ℕ) → Rights
+rights-in sets = record { read = users-rows sets read-row; write = users-rows sets write-row }
+
+-- the sixteen variables: their values, and a row for each label
+unfoldable pub vars-of : List ℤ → List (List ℕ) → ℕ → Lab ℤ
+vars-of vars tags p = record { val = getD vars p (pos 0); lab = row-at tags p }
+
+-- ---- the numbers of a run
+
+-- what is left of the budget
+abbrev pub left-of : List ℕ → ℕ
+left-of run = getD run 0 0
+
+-- the trace bytes written so far
+abbrev pub used-of : List ℕ → ℕ
+used-of run = getD run 1 0
+
+-- the number and the node of a stop
+abbrev pub number-of : List ℕ → ℕ
+number-of run = getD run 2 0
+
+abbrev pub node-of : List ℕ → ℕ
+node-of run = getD run 3 0
+
+-- ---- all of them
 
 -- all that a command may change but its variables
 pub record Store : Type 0 where
   pub amounts : List ℤ
-  pub presence : List ℕ
-  pub labels : List ℕ
-  pub read : List (List ℕ)
-  pub write : List (List ℕ)
+  pub sets : List (List ℕ)
+  pub run : List ℕ
   pub trace : List ℕ
 
-abbrev pub store : List ℤ → List ℕ → List ℕ → List (List ℕ) → List (List ℕ) → List ℕ → Store
-store amounts presence labels read write trace = record {
-  amounts = amounts;
-  presence = presence;
-  labels = labels;
-  read = read;
-  write = write;
-  trace = trace;
-}
-
-abbrev pub rights-of : List (List ℕ) → List (List ℕ) → Rights
-rights-of read write = record { read = rows read; write = rows write }
+abbrev pub store : List ℤ → List (List ℕ) → List ℕ → List ℕ → Store
+store amounts sets run trace = record { amounts = amounts; sets = sets; run = run; trace = trace }
 
 -- the records for which a trace has room when `used` of its bytes are written
 abbrev pub room-in : List ℕ → ℕ → ℕ
 room-in trace used = (length trace - used) / 8
 
-abbrev pub state : (ℕ → Lab ℤ) → Store → ℕ → ℕ → State
-state vars x left used = record {
-  cells = cells-of (x .amounts) (x .presence) (x .labels);
+abbrev pub state : (ℕ → Lab ℤ) → Store → State
+state vars x = record {
+  cells = cells-held (x .amounts) (x .sets);
   vars = vars;
-  rights = rights-of (x .read) (x .write);
-  left = left;
-  room = room-in (x .trace) used;
+  rights = rights-in (x .sets);
+  left = left-of (x .run);
+  room = room-in (x .trace) (used-of (x .run));
 }
 
 -- the trace with these records from byte `used` on
@@ -55,3 +107,10 @@ with-records trace used records = take used trace ++ trace-bytes records ++ drop
 -- a cell as a write leaves it: event 1 puts the amount, event 2 clears
 abbrev pub cell : ℕ → ℤ → Cell
 cell event amount = record { present = eqb event 1; amount = amount }
+
+-- what every command asks of the memory that it is lent
+pub record Lent (code : List ℕ) (sets : List (List ℕ)) (run trace : List ℕ) : Type 0 where
+  pub runnable : Runnable code
+  pub public-is : row-at sets public-row ≡ public-set (script-of code)
+  pub short : length trace ≤ 65536
+  pub room : used-of run ≤ length trace

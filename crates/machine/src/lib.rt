@@ -1,120 +1,180 @@
-// What the functions that run a book answer. The promises they make with these answers are in specs/.
+// What the functions that run a book are lent and answer: the script, the sets, the numbers of the run. The promises they make are in specs/.
 ghost use mathlib.Core.Path.{_≡_};
-ghost use Prim.Native.Nat.{_<_};
-ghost use lib.ListN.{getD};
-ghost use Rattle.places.specs.Sets.{has};
+ghost use Prim.Native.Nat.{_+_, _≤_, _<_};
+ghost use lib.ListN.{length, getD};
+ghost use Rattle.places.specs.Sets.{has, union};
 ghost use Rattle.book.specs.Records.{region-of};
-ghost use Rattle.book.specs.Layout.{count};
+ghost use Rattle.book.specs.Kinds.{cost-of};
 ghost use Rattle.book.specs.Refusals.{no-region};
 ghost use Rattle.monitor.specs.Rules.{region-places};
-ghost use Rattle.machine.specs.Ready.{script-of, Runnable};
-ghost use Rattle.machine.specs.Promises.{ran, stop-of};
+ghost use Rattle.monitor.specs.Call.{rows};
+ghost use Rattle.machine.specs.Script.{script-of, Runnable};
+ghost use Rattle.machine.specs.Store.{users-rows, Replaces};
+ghost use Rattle.machine.specs.Promises.{Stops, Pays};
 
-// The value of an expression, or the stop on the way to it: its number and its node.
+// The value of an expression, or none where the run stopped on the way to it.
 pub enum Value {
     Known(i32),
-    Stopped(u32, usize),
+    Stopped,
 }
 
-// An evaluated expression: its value or its stop, what is left of the budget, and beside the enum the words of its label.
-pub struct Valued {
-    pub answer: Value,
-    pub left: u32,
-    pub label: [u64; 8],
-}
-
-// The end of a command: done, or stopped with a number on a node.
+// The end of a command.
 pub enum Outcome {
     Done,
-    Stopped(u32, usize),
+    Stopped,
 }
 
-// A command that was run: its end, what is left of the budget, and the trace bytes written so far.
-pub struct Ran {
-    pub outcome: Outcome,
-    pub left: u32,
-    pub used: usize,
-}
-
-// The write of a cell: at its place, or stopped with a number on a node.
+// The write of a cell: at its place, or none where the run stopped before it.
 pub enum Posted {
     At(usize),
-    Stopped(u32, usize),
+    Stopped,
 }
 
-// The sixteen variables and eight label words for each.
-pub struct Variables {
-    pub values: [i32; 16],
-    pub tags: [u64; 128],
-}
+// Who runs a command: the user, and the least number of a trigger that its writes fire. It is lent: a struct of two numbers is passed by a copy,
+// whose wide loads wait for the stores of the two.
+pub type Who = [usize; 2];
 
-// A book that is run: the end of an array that is as long as the longest accepted book.
-pub type Script = [u8; 21380];
+// Where the two stand.
+pub const USER: usize = 0;
 
-// Region `region` of a book that is run.
-fn region_of(file: &Script, region: usize) -> regions::Region
-    requires { ⌜ Runnable (now file) × (region < count (now file) 1) ⌝ }
-    ensures { λ r. ⌜ (r ≡ region-of (getD (script-of (now (file .entry)) .regions) region no-region)) × (r .table < 8) ⌝ }
+pub const ABOVE: usize = 1;
+
+// The book that is run, without its cells: each section at a place of its own, with room for its most records. The nodes are at 0.
+pub type Script = [u8; 17366];
+
+// What it costs to enter a node of each kind, four bytes each.
+pub const PRICES: usize = 16384;
+
+// Where the other sections start.
+pub const REGIONS: usize = 16492;
+
+pub const RIGHTS: usize = 17004;
+
+pub const PROGRAMS: usize = 17260;
+
+pub const TRIGGERS: usize = 17292;
+
+// How many records the sections have, two bytes each: regions, rights, nodes, programs, triggers.
+pub const COUNTS: usize = 17356;
+
+pub const RIGHTS_COUNT: usize = 17358;
+
+pub const PROGRAMS_COUNT: usize = 17362;
+
+pub const TRIGGERS_COUNT: usize = 17364;
+
+// All sets of a run, each a row: the places that are present, those that are public, eight users' read sets and write sets, and the labels of
+// the 512 cells. The labels are last, so that a place that is none would not find another set.
+pub type Sets = [[u64; 8]; 530];
+
+// The rows of sets; those of rights and labels are the first of theirs.
+pub const PRESENT: usize = 0;
+
+pub const PUBLIC: usize = 1;
+
+pub const READ: usize = 2;
+
+pub const WRITE: usize = 10;
+
+pub const LABELS: usize = 18;
+
+// The numbers of a run.
+pub type Run = [u32; 4];
+
+// What is left of the budget, and the trace bytes written so far.
+pub const LEFT: usize = 0;
+
+pub const USED: usize = 1;
+
+// The number and the node of a stop.
+pub const NUMBER: usize = 2;
+
+pub const NODE: usize = 3;
+
+// Stops the run with a number on node `n`. The slice tells the proof how long the array is.
+pub fn stop(run: &mut Run, number: u32, n: usize) -> Outcome
+    requires { ⌜ n < 1024 ⌝ }
+    ensures { λ r. ⌜ (r ≡ Outcome.Stopped) × Stops (now (run .entry)) number n (now (run .exit)) ⌝ }
 {
-    let regions = book::section_at(file, 1);
-    book::region_at(file, regions.start + 8 * region)
+    let all: &[u32] = run;
+    run[NUMBER] = number;
+    run[NODE] = n as u32;
+    Outcome::Stopped
 }
 
-// The places of region `region` of a book that is run.
-pub fn region_places(file: &Script, region: usize) -> [u64; 8]
-    requires { ⌜ Runnable (now file) × (region < count (now file) 1) ⌝ }
-    ensures { λ r. ⌜ r ≡ region-places (script-of (now (file .entry))) region ⌝ }
+// Pays what it costs to enter node `n` of this kind, or stops with 21.
+pub fn pay(code: &Script, kind: u8, n: usize, run: &mut Run) -> Outcome
+    requires { ⌜ Runnable (now code) × (kind < 27) × (n < 1024) ⌝ }
+    ensures { λ r. ⌜ Pays (now (run .entry)) (cost-of kind) n r (now (run .exit)) ⌝ }
 {
-    regions::region_set(region_of(file, region))
+    let all: &[u32] = run;
+    let cost = numbers::u32_at(code, PRICES + 4 * (kind as usize));
+    let left = run[LEFT];
+    if left < cost {
+        return stop(run, 21, n);
+    }
+    run[LEFT] = left - cost;
+    Outcome::Done
+}
+
+// Joins a label to one that is lent.
+pub fn join(label: &mut [u64; 8], more: [u64; 8])
+    ensures { λ _. ⌜ now (label .exit) ≡ union (now (label .entry)) more ⌝ }
+{
+    let old = *label;
+    let next = places::union(old, more);
+    *label = next;
+}
+
+// Region `region` of the script.
+fn region_of(code: &Script, region: usize) -> regions::Region
+    requires { ⌜ Runnable (now code) × (region < length (script-of (now code) .regions)) ⌝ }
+    ensures { λ r. ⌜ (r ≡ region-of (getD (script-of (now (code .entry)) .regions) region no-region)) × (r .table < 8) ⌝ }
+{
+    book::region_at(code, REGIONS + 8 * region)
+}
+
+// The places of region `region` of the script.
+pub fn region_places(code: &Script, region: usize) -> [u64; 8]
+    requires { ⌜ Runnable (now code) × (region < length (script-of (now code) .regions)) ⌝ }
+    ensures { λ r. ⌜ r ≡ region-places (script-of (now (code .entry))) region ⌝ }
+{
+    regions::region_set(region_of(code, region))
 }
 
 // Whether `place` is one of them.
-pub fn region_holds(file: &Script, region: usize, place: usize) -> bool
-    requires { ⌜ Runnable (now file) × (region < count (now file) 1) × (place < 512) ⌝ }
-    ensures { λ r. ⌜ r ≡ has (region-places (script-of (now (file .entry))) region) place ⌝ }
+pub fn region_holds(code: &Script, region: usize, place: usize) -> bool
+    requires { ⌜ Runnable (now code) × (region < length (script-of (now code) .regions)) × (place < 512) ⌝ }
+    ensures { λ r. ⌜ r ≡ has (region-places (script-of (now (code .entry))) region) place ⌝ }
 {
-    regions::holds(region_of(file, region), place)
+    regions::holds(region_of(code, region), place)
 }
 
-// A command that is done.
-pub fn finished(rest: u32, written: usize) -> Ran
-    ensures { λ r. ⌜ r ≡ ran Outcome.Done rest written ⌝ }
+// The sets of the eight users from row `first` on.
+pub fn users_sets(sets: &Sets, first: usize) -> [[u64; 8]; 8]
+    requires { ⌜ first + 8 ≤ 18 ⌝ }
+    ensures { λ r. ⌜ rows r ≡ users-rows (now (sets .entry)) first ⌝ }
 {
-    Ran {
-        outcome: Outcome::Done,
-        left: rest,
-        used: written,
+    let none = [0u64; 8];
+    let mut users = [none; 8];
+    let mut user: usize = 0;
+    while user < 8 {
+        users[user] = sets[first + user];
+        user += 1;
     }
+    users
 }
 
-// A command that stops on node `n`.
-pub fn stopped(number: u32, n: usize, left: u32, used: usize) -> Ran
-    ensures { λ r. ⌜ r ≡ ran (Outcome.Stopped number n) left used ⌝ }
+// Makes these the sets of the eight users from row `first` on; the other rows stay.
+pub fn store_users(sets: &mut Sets, first: usize, users: [[u64; 8]; 8])
+    requires { ⌜ first + 8 ≤ 18 ⌝ }
+    ensures { λ _. ⌜ Replaces (now (sets .entry)) first (rows users) (now (sets .exit)) ⌝ }
 {
-    Ran {
-        outcome: Outcome::Stopped(number, n),
-        left,
-        used,
-    }
-}
-
-// The stop of an expression, passed upward by the command that needed its value.
-pub fn failed(answer: Value, left: u32, used: usize) -> Ran
-    ensures { λ r. ⌜ r ≡ ran (stop-of answer) left used ⌝ }
-{
-    match answer {
-        Value::Known(_) => finished(left, used),
-        Value::Stopped(number, n) => stopped(number, n, left, used),
-    }
-}
-
-// The same answer, made anew from its fields: handed on whole, it is copied by wide loads, which wait for the narrow stores that made it.
-pub fn passed(answer: Ran) -> Ran
-    ensures { λ r. ⌜ r ≡ answer ⌝ }
-{
-    let outcome = answer.outcome;
-    match outcome {
-        Outcome::Done => finished(answer.left, answer.used),
-        Outcome::Stopped(number, n) => stopped(number, n, answer.left, answer.used),
+    let all: &[[u64; 8]] = sets;
+    let mut user: usize = 0;
+    while user < 8 {
+        let set = users[user];
+        sets[first + user] = set;
+        user += 1;
     }
 }

@@ -1,150 +1,108 @@
 -- The ways through an out: its expression stops, the user may not read the value, the trace is full, the record is written.
 -- Assumes nothing.
-use mathlib.Core.Path.{_≡_, refl, sym, ap, _∙_}
-use mathlib.Core.List.{List, [], _∷_}
+use mathlib.Core.Path.{_≡_, _∙_}
+use mathlib.Core.List.{List, _∷_, _++_}
 use mathlib.Core.Bool.{Bool, true, false}
-use Prim.Native.Nat.{ℕ, _+_, _*_, _≤_, _<_}
-use native.Mathlib.Nat.{le-refl}
+use Prim.Native.Nat.{ℕ, _+_, _-_, _*_, _≤_, _<_}
 use native.Mathlib.Omega.{arith}
 use lib.IntN.{ℤ}
-use lib.ListN.{length, getD}
+use lib.ListN.{length, set, take, drop}
 use Rattle.places.specs.Sets.{union, within}
-use Rattle.book.specs.Bytes.{byte, le16}
+use Rattle.book.specs.Bytes.{byte, le16, four, bits32}
 use Rattle.book.specs.Records.{NodeRecord}
-use Rattle.book.specs.Layout.{decode}
-use Rattle.book.specs.Kinds.{expression}
 use Rattle.book.specs.Kinds as sorts
 use Rattle.book.specs.Refusals.{node-at}
 use Rattle.book.specs.Start.{public-set}
 use Rattle.monitor.specs.Labelled.{Label, Lab}
-use Rattle.monitor.specs.Run.{Rights, said, M, _>>=_, _>>_, look, Test, inside, need, tell}
-use Rattle.monitor.specs.Syntax.{Cmd, out, cmd-of}
-use Rattle.monitor.specs.Rules.{command, eval, exec}
-use Rattle.monitor.specs.Call.{cells-of, rows}
-use Rattle.monitor.proofs.Start.{script-public}
-use Rattle.machine.specs.Ready.{script-of, Node, Lent}
-use Rattle.machine.specs.Store.{Store, store, rights-of, state, with-records}
-use Rattle.machine.specs.Promises.{Gives, Evaluates, ran, stop-of, ended, Does, env, Commands, Tells}
+use Rattle.monitor.specs.Run.{Rights, State, said, M, _>>=_, _>>_, look, Test, inside, need, tell}
+use Rattle.monitor.specs.Syntax.{out, cmd-of}
+use Rattle.monitor.specs.Rules.{command}
+use Rattle.machine.specs.Script.{script-of, Runnable, Node}
+use Rattle.machine.specs.Store.{row-at, public-row, read-row, cells-held, rights-in, used-of, Store, store, state, Lent}
+use Rattle.machine.specs.Promises.{Stops, Gives, Evaluates, Does, Commands, Who}
+use Rattle.machine.specs.declared.Value.{Value}
 use Rattle.machine.specs.declared.Value.the-variants as value
-use Rattle.machine.specs.declared.Valued.{Valued}
+use Rattle.machine.specs.declared.Outcome.{Outcome}
 use Rattle.machine.specs.declared.Outcome.the-variants.{Done, Stopped}
-use Rattle.machine.specs.declared.Ran.{Ran}
-use Rattle.machine.proofs.Nodes.{script-node, Read, read-at, out-p, out-a}
-use Rattle.machine.proofs.Runs.{next-look, need-holds, need-fails, comes-to, does-as, quietly, value-stops, value-goes}
-use Rattle.traces.proofs.Records.{tell-full, tell-writes}
+use Rattle.machine.proofs.Nodes.{command-is, Read, read-at, out-p, out-a}
+use Rattle.machine.proofs.Runs.{next-look, need-holds, need-fails, with-run, comes-to, does-as, stops-on, value-stops, value-goes}
+use Rattle.machine.proofs.Stores.{user-row}
+use Rattle.traces.proofs.Records.{tell-full, tell-writes, said-recorded}
 
--- ---- what the code reads and tests
+-- the node of its value, as the code reads it
+pub told-value : (code : List ℕ) (n : ℕ) → Runnable code → Node sorts.command (script-of code) n × (node-at (script-of code) n .kind ≡ 23) → {a : ℕ} → a ≡ le16 code (16 * n + 2)
+    → Node sorts.expression (script-of code) a
+told-value code n v g e = rw (e, read-at code v n (g .0 .inside) .a) (out-a (script-of code) (v .sound) n (g .0 .inside) (g .1) .node)
 
-module _ {file : List ℕ} {nodes : ℕ} {costs public trace : List ℕ} {used n : ℕ} (l : Lent file nodes costs public trace used) (nd : Node sorts.command file n) where
-  abbrev at : ℕ
-  at = nodes + 16 * n
-
+module _ (code : List ℕ) (ctx : Label) (n : ℕ) where
   abbrev node : NodeRecord
-  node = node-at (decode file) n
-
-  pub out-read : Read file at node
-  out-read = read-at file (l .ready .runnable) n (nd .inside) nodes (l .ready .nodes-start)
-
-  module _ (k : node .kind ≡ 23) where
-    pub user-below : {p : ℕ} → p ≡ byte file (at + 1) → p < 8
-    user-below e = omega (arith, out-read .p, out-p file (l .ready .runnable) n (nd .inside) k)
-
-    pub value-node : {a : ℕ} → a ≡ le16 file (at + 2) → Node expression file a
-    value-node e = rw (e, out-read .a) (out-a file (l .ready .runnable) n (nd .inside) k .node)
-
-  -- the code's test is that of the rules
-  pub may-read : (ctx label : Label) (read : List (List ℕ)) {told bound : Label} {p : ℕ} {fine : Bool}
-      → fine ≡ within told bound → told ≡ union ctx label → bound ≡ union public (getD read p []) → p ≡ byte file (at + 1)
-      → fine ≡ within (union ctx label) (union (public-set (decode file)) (rows read (node .p)))
-  unfolding rows
-  may-read ctx label read e et eb ep =
-      let user = ep ∙ out-read .p in
-      e ∙ (λ i. within (et i) (eb i)) ∙ (λ i. within (union ctx label) (union (l .public-is i) (getD read (user i) [])))
-
--- ---- the rule
-
-out-node : (x : NodeRecord) → x .kind ≡ 23 → cmd-of x ≡ out (x .p) (x .a)
-unfolding cmd-of
-out-node x k = rw k
-
-module _ (file : List ℕ) (ctx : Label) (n : ℕ) where
-  abbrev x : NodeRecord
-  x = node-at (decode file) n
+  node = node-at (script-of code) n
 
   -- once the value is known
   abbrev reader : Lab ℤ → Rights → Test
-  reader y r = inside true (union ctx (y .lab)) (union (public-set (script-of file)) (r .read (x .p)))
+  reader y r = inside true (union ctx (y .lab)) (union (public-set (script-of code)) (r .read (node .p)))
 
   abbrev says : Lab ℤ → M (Unit {0})
   says y = do
     r ← look (λ s. s .rights)
     need (reader y r) 27 n
-    tell n (said (x .p) (y .val)) (λ r. r)
+    tell n (said (node .p) (y .val)) (λ r. r)
 
-  as-out : x .kind ≡ 23 → {a : ℕ} → a ≡ x .a → (user above fuel : ℕ) → Commands file ctx user above n fuel ≡ (Evaluates file a fuel >>= says)
-  unfolding command
-  as-out k e user above fuel =
-      ap (λ (c : Cmd). command (script-of file) true (eval (script-of file) fuel) (exec (script-of file) true fuel) (env ctx user above) n c)
-      (ap cmd-of (script-node file n) ∙ out-node x k)
-      ∙ ap (λ (m : ℕ). Evaluates file m fuel >>= says) (sym e)
+  -- the node a of the expression, and what it gives
+  module _ (who : Who) (vars : ℕ → Lab ℤ) (x : Store)
+      (g : Lent code (x .sets) (x .run) (x .trace) × (Node sorts.command (script-of code) n × (node .kind ≡ 23))) {a : ℕ} (ea : a ≡ le16 code (16 * n + 2))
+      {v : Value} {run : List ℕ} {label : Label} (d : Gives (Evaluates code a) (cells-held (x .amounts) (x .sets)) vars (x .run) ctx v run label) where
+    abbrev Ends : Outcome → Store → Type 0
+    Ends r x' = Does (Commands code ctx who n) vars x r vars x'
 
-  -- ---- the ways
+    read : Read code (16 * n) node
+    read = read-at code (g .0 .runnable) n (g .1 .0 .inside)
 
-  module _ (left used : ℕ) (vars : ℕ → Lab ℤ) (amounts : List ℤ) (presence labels : List ℕ) (read : List (List ℕ)) (trace : List ℕ) where
-    abbrev lent : List (List ℕ) → List ℕ → Store
-    lent write trace' = store amounts presence labels read write trace'
+    as-out : (fuel : ℕ) → Commands code ctx who n fuel ≡ (Evaluates code a fuel >>= says)
+    unfolding command cmd-of
+    as-out fuel = command-is code ctx who n {y = out (node .p) (node .a)} (rw (g .1 .1)) fuel ∙ rw (ea, read .a)
 
-    abbrev Telling : Ran → List ℕ → Type 0
-    Telling r trace' = Tells file ctx n left used vars amounts presence labels read trace r trace'
+    pub out-fails : v ≡ value.Stopped → Ends Stopped (with-run x run)
+    out-fails e = does-as as-out (value-stops d (λ _. says) e (g .0 .room))
 
-    told : {r : Ran} {trace' : List ℕ}
-        → ((user above : ℕ) (write : List (List ℕ)) → Does (Commands file ctx user above n) vars (lent write trace) left used r vars (lent write trace'))
-        → Telling r trace'
-    told d = record { does = d; within = d 0 0 [] .within }
+    -- its value, and the user p
+    module _ {z : ℤ} (e : v ≡ value.Known z) {p : ℕ} (ep : p ≡ byte code (16 * n + 1)) where
+      -- what the code tests
+      abbrev fine : Bool
+      fine = within label (union (row-at (x .sets) public-row) (row-at (x .sets) (read-row + p)))
 
-    -- the node a of the expression, and what it gives
-    module _ (k : x .kind ≡ 23) {a : ℕ} (ea : a ≡ x .a) {g : Valued} (d : Gives (Evaluates file a) (cells-of amounts presence labels) vars left g)
-        (u : used ≤ length trace) where
-      pub out-fails : {r : Ran} (number node : ℕ) → g .answer ≡ value.Stopped number node → r ≡ ran (stop-of (g .answer)) (g .left) used → Telling r trace
-      out-fails number node e q = told λ user above write.
-          does-as (as-out k ea user above) (value-stops {x = lent write trace} d (λ _. says) number node e q u)
+      abbrev test : Test
+      test = reader (record { val = z; lab = d .label }) (rights-in (x .sets))
 
-      module _ {z : ℤ} (e : g .answer ≡ value.Known z) where
-        abbrev known : Lab ℤ
-        known = record { val = z; lab = g .label }
+      -- is what the rule tests
+      same-test : {b : Bool} → fine ≡ b → test .passes ≡ b
+      same-test h =
+          let user : p ≡ node .p = ep ∙ read .p in
+          rw (← d .joined e, ← g .0 .public-is, ← user, user-row (x .sets) read-row p (rw user (out-p (script-of code) (g .0 .runnable .sound) n (g .1 .0 .inside) (g .1 .1)))) h
 
-        abbrev bound : Label
-        bound = union (public-set (decode file)) (rows read (x .p))
+      u : used-of run ≤ length (x .trace)
+      u = omega (arith, d .used-same, g .0 .room)
 
-        -- the test, with the public set of the rules
-        same-test : (write : List (List ℕ)) → reader known (rights-of read write) .passes ≡ within (union ctx (g .label)) bound
-        same-test write = ap (λ (s : Label). within (union ctx (g .label)) (union s (rows read (x .p)))) (script-public (decode file))
+      abbrev now : State
+      now = state vars (with-run x run)
 
-        pub out-hidden : {r : Ran} → within (union ctx (g .label)) bound ≡ false → r ≡ ran (Stopped 27 n) (g .left) used → Telling r trace
-        unfolding ended
-        out-hidden h q = told λ user above write.
-            let s = state vars (lent write trace) (g .left) used in
-            let test = reader known (rights-of read write) in
-            does-as (as-out k ea user above) (value-goes {x = lent write trace} d (λ _. says) z e
-            (quietly (Stopped 27 n) (test .obstacle) (g .left) q (le-refl (g .left)) u
-            (λ fuel _. next-look (λ s. s .rights) _ s ∙ need-fails test 27 n _ s (same-test write ∙ h))))
+      pub out-hidden : {r : Outcome} {run' : List ℕ} → fine ≡ false → (r ≡ Stopped) × Stops run 27 n run' → Ends r (with-run x run')
+      out-hidden h s = does-as as-out (value-goes d (λ _. says) z e (rw (s .0) (stops-on u (test .obstacle) (s .1)
+          (λ fuel _. next-look (λ s. s .rights) _ now ∙ need-fails test 27 n _ now (same-test h)))))
 
-        module _ (h : within (union ctx (g .label)) bound ≡ true) where
-          -- what is left is to tell
-          heard : {r : Ran} {trace' : List ℕ}
-              → ((write : List (List ℕ))
-              → Does (λ fuel. tell n (said (x .p) z) (λ r. r)) vars (lent write trace) (g .left) used r vars (lent write trace'))
-              → Telling r trace'
-          heard t = told λ user above write.
-              let s = state vars (lent write trace) (g .left) used in
-              does-as (as-out k ea user above) (value-goes {x = lent write trace} d (λ _. says) z e
-              (comes-to
-              (λ fuel _. next-look (λ s. s .rights) _ s ∙ need-holds (reader known (rights-of read write)) 27 n _ s (same-test write ∙ h))
-              (t write)))
+      module _ (h : fine ≡ true) where
+        -- what is left is to tell
+        heard : {r : Outcome} {x' : Store} → Does (λ fuel. tell n (said (node .p) z) (λ r. r)) vars (with-run x run) r vars x' → Ends r x'
+        heard t = does-as as-out (value-goes d (λ _. says) z e (comes-to
+            (λ fuel _. next-look (λ s. s .rights) _ now ∙ need-holds test 27 n _ now (same-test h)) t))
 
-          pub out-full : {r : Ran} → length trace < used + 8 → r ≡ ran (Stopped 30 n) (g .left) used → Telling r trace
-          out-full f q = heard λ write. tell-full n (said (x .p) z) (λ r. r) u f q
+        pub out-full : {r : Outcome} {run' : List ℕ} → length (x .trace) < used-of run + 8 → (r ≡ Stopped) × Stops run 30 n run' → Ends r (with-run x run')
+        out-full f s = heard (tell-full n (said (node .p) z) (λ r. r) u f s)
 
-          pub out-tells : {r : Ran} {trace' : List ℕ} → used + 8 ≤ length trace → trace' ≡ with-records trace used (said (x .p) z ∷ [])
-              → r ≡ ran Done (g .left) (used + 8) → Telling r trace'
-          out-tells f et q = heard λ write. tell-writes n (said (x .p) z) (λ r. r) f et refl q
+        -- the part of the trace that the code has lent on
+        pub out-tells : {part : List ℕ} {bits : ℕ} → length run ≡ 4 → used-of run + 8 ≤ length (x .trace)
+            → part ≡ 1 ∷ p ∷ 0 ∷ 0 ∷ four bits ++ drop 8 (take (length (x .trace) - used-of run) (drop (used-of run) (x .trace))) → bits ≡ bits32 z
+            → Ends Done (store (x .amounts) (x .sets) (set run 1 (used-of run + 8))
+            (take (used-of run) (x .trace) ++ (part ++ drop (length (x .trace) - used-of run) (drop (used-of run) (x .trace)))))
+        out-tells words f put eb = heard (tell-writes n (said (node .p) z) (λ r. r) words f (said-recorded (x .trace) (used-of run) f z put (ep ∙ read .p) eb)
+            (λ i. cells-held (x .amounts) (x .sets)) (λ i. rights-in (x .sets)) (λ i. row-at (x .sets) public-row))

@@ -1,14 +1,19 @@
 // The write of one cell, with its tests.
 use machine::Posted;
+use machine::Run;
+use machine::Sets;
 ghost use mathlib.Core.Path.{_≡_};
 ghost use mathlib.Core.Bool.{cond, true};
 ghost use Prim.Native.Nat.{_<_};
 ghost use lib.Dec.{eqb};
 ghost use lib.Bits.{bitOr, bitAnd, bitXor};
+ghost use lib.ListN.{length};
+ghost use Rattle.places.specs.Sets.{union};
 ghost use Rattle.monitor.specs.Run.{update};
+ghost use Rattle.monitor.specs.Labelled.{Label};
 ghost use Rattle.monitor.specs.Rules.{key-place, in-table};
-ghost use Rattle.monitor.specs.Call.{cells-of};
-ghost use Rattle.machine.specs.Store.{cell};
+ghost use Rattle.machine.specs.Store.{cells-held, rights-in, row-at, public-row, cell};
+ghost use Rattle.machine.specs.Promises.{Stops};
 ghost use Rattle.machine.specs.Writes.{key-of, Posts};
 
 // Whether a key is one of a table's.
@@ -48,67 +53,83 @@ fn marked(event: u8, word: u64, bit: u64) -> u64
     word ^ (word & bit)
 }
 
+// Tells the proof that a row has eight words.
+fn eight(row: [u64; 8])
+    ensures { λ _. ⌜ length row ≡ 8 ⌝ }
+{}
+
 // The cell at `place` becomes an amount, or absent, with a label. The two slices tell the proof how long the arrays are.
 fn store_cell(
     amounts: &mut [i32; 512],
-    presence: &mut [u64; 8],
-    labels: &mut [u64; 4096],
+    sets: &mut Sets,
     place: usize,
     event: u8,
     amount: i32,
     label: [u64; 8],
 )
     requires { ⌜ place < 512 ⌝ }
-    ensures { λ _. ⌜ cells-of (now (amounts .exit)) (now (presence .exit)) (now (labels .exit))
-        ≡ update (cells-of (now (amounts .entry)) (now (presence .entry)) (now (labels .entry))) place (record { val = cell event amount; lab = label }) ⌝ }
+    ensures { λ _. ⌜ cells-held (now (amounts .exit)) (now (sets .exit))
+        ≡ update (cells-held (now (amounts .entry)) (now (sets .entry))) place (record { val = cell event amount; lab = label }) ⌝ }
+    ensures { λ _. ⌜ (rights-in (now (sets .exit)) ≡ rights-in (now (sets .entry)))
+        × (row-at (now (sets .exit)) public-row ≡ row-at (now (sets .entry)) public-row) ⌝ }
 {
     let all_amounts: &[i32] = amounts;
-    let all_words: &[u64] = presence;
-    amounts[place] = amount;
-    let word = place / 64;
+    let all_sets: &[[u64; 8]] = sets;
+    let present = sets[machine::PRESENT];
+    eight(present);
     let one = places::single(place);
-    let next = marked(event, presence[word], one[word]);
-    presence[word] = next;
-    labels::set_label(labels, place, label);
+    let word = place / 64;
+    let next = marked(event, present[word], one[word]);
+    amounts[place] = amount;
+    sets[machine::PRESENT][word] = next;
+    sets[machine::LABELS + place] = label;
+}
+
+// A stop before the write.
+fn stopped(run: &mut Run, number: u32, n: usize) -> Posted
+    requires { ⌜ n < 1024 ⌝ }
+    ensures { λ r. ⌜ (r ≡ Posted.Stopped) × Stops (now (run .entry)) number n (now (run .exit)) ⌝ }
+{
+    machine::stop(run, number, n);
+    Posted::Stopped
 }
 
 // The write of a cell by put (event 1) or clear (event 2), up to the triggers: tests 23, 24 and 26 come before it.
-// `ctx` is context plus key label.
+// `ctx` is context plus key label, and `label` that with the amount's label.
 pub fn post(
     n: usize,
-    ctx: &[u64; 8],
     user: usize,
     table: usize,
     owner: i32,
     line: i32,
     event: u8,
     amount: i32,
+    ctx: &[u64; 8],
     label: &[u64; 8],
-    write: &[[u64; 8]; 8],
-    amounts: &mut [i32; 512],
-    presence: &mut [u64; 8],
-    labels: &mut [u64; 4096],
+    cells: &mut [i32; 512],
+    sets: &mut Sets,
+    run: &mut Run,
 ) -> Posted
-    requires { ⌜ (user < 8) × (table < 8) ⌝ }
-    ensures { λ r. ⌜ Posts n (now (ctx .entry)) user table (key-of owner line) (record { val = cell event amount; lab = now (label .entry) }) (now (write .entry))
-        (cells-of (now (amounts .entry)) (now (presence .entry)) (now (labels .entry))) r (cells-of (now (amounts .exit)) (now (presence .exit)) (now (labels .exit))) ⌝ }
+    requires { ⌜ (n < 1024) × (user < 8) × (table < 8) ⌝ }
+    ensures { λ r. ⌜ ((own : Label) → now (label .entry) ≡ union (now (ctx .entry)) own
+        → Posts n (now (ctx .entry)) user table (key-of owner line) (record { val = cell event amount; lab = own })
+        (now (cells .entry)) (now (sets .entry)) (now (run .entry)) r (now (cells .exit)) (now (sets .exit)) (now (run .exit))) ⌝ }
 {
     let keyed = is_key(owner, line);
     if !keyed {
-        return Posted::Stopped(23, n);
+        return stopped(run, 23, n);
     }
     let place = place_of(table, owner, line);
-    let may = places::contains(write[user], place);
+    let may = places::contains(sets[machine::WRITE + user], place);
     if !may {
-        return Posted::Stopped(24, n);
+        return stopped(run, 24, n);
     }
     let context = *ctx;
-    let fine = places::within(context, labels::label_at(labels, place));
+    let fine = places::within(context, sets[machine::LABELS + place]);
     if !fine {
-        return Posted::Stopped(26, n);
+        return stopped(run, 26, n);
     }
-    let added = *label;
-    let new = places::union(context, added);
-    store_cell(amounts, presence, labels, place, event, amount, new);
+    let new = *label;
+    store_cell(cells, sets, place, event, amount, new);
     Posted::At(place)
 }

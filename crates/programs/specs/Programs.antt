@@ -6,10 +6,10 @@ use lib.ListN.{getD, drop}
 use Rattle.book.specs.Refusals.{no-program}
 use Rattle.monitor.specs.Run.{M, each}
 use Rattle.monitor.specs.Rules.{program}
-use Rattle.machine.specs.Ready.{script-of}
+use Rattle.machine.specs.Script.{script-of}
 
 abbrev pub Program : List ℕ → ℕ → ℕ → M (Unit {0})
-Program file i fuel = program (script-of file) true fuel (getD (script-of file .programs) i no-program)
+Program code i fuel = program (script-of code) true fuel (getD (script-of code .programs) i no-program)
 
 abbrev pub Programs : List ℕ → ℕ → ℕ → M (Unit {0})
-Programs file i fuel = each (drop i (script-of file .programs)) (program (script-of file) true fuel)
+Programs code i fuel = each (drop i (script-of code .programs)) (program (script-of code) true fuel)

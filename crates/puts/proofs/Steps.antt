@@ -1,37 +1,33 @@
 -- The ways through put and clear: the evaluations, the write, and the triggers. Assumes nothing.
-use mathlib.Core.Path.{_≡_, refl, sym, ap, _∙_}
-use mathlib.Core.List.{List, []}
-use mathlib.Core.Bool.{true}
+use mathlib.Core.Path.{_≡_, refl, sym, ap, subst, _∙_}
+use mathlib.Core.List.{List, [], _∷_}
 use Prim.Native.Nat.{ℕ, zero, suc, _+_, _≤_, _<_}
+use mathlib.Core.Bool.{true}
 use native.Mathlib.Omega.{arith}
 use lib.IntN.{ℤ, pos}
-use lib.ListN.{length}
+use lib.ListN.{length, getD, set, replicate, length-replicate}
 use Rattle.places.specs.Sets.{union}
-use Rattle.book.specs.Records.{NodeRecord}
-use Rattle.book.specs.Layout.{count, decode}
+use Rattle.places.proofs.Sets.{union-assoc}
+use Rattle.book.specs.Records.{NodeRecord, Book}
 use Rattle.book.specs.Kinds.{expression}
 use Rattle.book.specs.Refusals.{node-at}
 use Rattle.monitor.specs.Syntax.{put, clear, cmd-of}
-use Rattle.monitor.specs.Labelled.{Label, Lab, lit, lift, lift2}
+use Rattle.monitor.specs.Labelled.{Label, bottom, Lab, lit, lift, lift2}
 use Rattle.monitor.specs.Run.{Cell, M, next, _>>=_, _>>_}
 use Rattle.monitor.specs.Rules.{Key, key, key-place, posting, within-label, trigger-run, fire, write-cell, command, exec}
-use Rattle.monitor.specs.Call.{cells-of, rows}
-use Rattle.machine.specs.Ready.{script-of, Runnable}
-use Rattle.machine.specs.Store.{Store, store, room-in, cell}
-use Rattle.machine.specs.Promises.{Gives, Evaluates, ran, stop-of, Does, DoesAside, env, Commands}
-use Rattle.machine.specs.Writes.{key-of, posted-end, Posts, Fires}
+use Rattle.machine.specs.Script.{script-of, Sound}
+use Rattle.machine.specs.Store.{cells-held, left-of, used-of, Store, store, cell}
+use Rattle.machine.specs.Promises.{Gives, Evaluates, Does, env, Commands, Who}
+use Rattle.machine.specs.Writes.{key-of, posted-end, Posts, key-in, Fires}
 use Rattle.machine.specs.declared.Value.{Value}
 use Rattle.machine.specs.declared.Value.the-variants as value
-use Rattle.machine.specs.declared.Valued.{Valued}
-use Rattle.machine.specs.declared.Outcome.the-variants.{Done, Stopped}
-use Rattle.machine.specs.declared.Ran.{Ran}
+use Rattle.machine.specs.declared.Outcome.{Outcome}
+use Rattle.machine.specs.declared.Outcome.the-variants.{Stopped}
 use Rattle.machine.specs.declared.Posted.{Posted}
 use Rattle.machine.specs.declared.Posted.the-variants as posted
-use Rattle.puts.specs.declared.Posting.{Posting}
-use Rattle.puts.specs.Writing.{NewAmount, stop-at, unposted, Writes}
-use Rattle.machine.proofs.Nodes.{script-node, command-is, Child, put-p, put-a, put-b, clear-p, clear-a, clear-b}
-use Rattle.machine.proofs.Traces.{with-none}
-use Rattle.machine.proofs.Runs.{cells, done-not-stopped, after-none, does-as, then-stops, then-goes, value-stops, value-goes}
+use Rattle.machine.proofs.Nodes.{command-is, Child, put-p, put-a, put-b, clear-p, clear-a, clear-b}
+use Rattle.machine.proofs.Runs.{after-none, does-as, then-stops, then-goes, value-stops, value-goes}
+use Rattle.puts.specs.Writing.{NewAmount, Writes}
 
 -- a put writes event 1, a clear event 2
 data Event : ℕ → Type 0 where
@@ -45,37 +41,34 @@ event-of (suc (suc zero)) h l = clears
 event-of (suc (suc (suc event))) h l = absurd (omega arith)
 
 -- what the fields of put and clear name
-pub record Fields (file : List ℕ) (n : ℕ) : Type 0 where
-  pub p : node-at (decode file) n .p < 8
-  pub a : Child expression file n (node-at (decode file) n .a)
-  pub b : Child expression file n (node-at (decode file) n .b)
+pub record Fields (s : Book) (n : ℕ) : Type 0 where
+  pub p : node-at s n .p < 8
+  pub a : Child expression s n (node-at s n .a)
+  pub b : Child expression s n (node-at s n .b)
 
-fields-known : (file : List ℕ) → Runnable file → (n : ℕ) → n < count file 3 → {event : ℕ} → Event event
-    → node-at (decode file) n .kind ≡ 20 + event → Fields file n
-fields-known file v n h puts e = record { p = put-p file v n h e; a = put-a file v n h e; b = put-b file v n h e }
-fields-known file v n h clears e = record { p = clear-p file v n h e; a = clear-a file v n h e; b = clear-b file v n h e }
+fields-known : (s : Book) → Sound s → (n : ℕ) → n < length (s .nodes) → {event : ℕ} → Event event → node-at s n .kind ≡ 20 + event → Fields s n
+fields-known s v n h puts e = record { p = put-p s v n h e; a = put-a s v n h e; b = put-b s v n h e }
+fields-known s v n h clears e = record { p = clear-p s v n h e; a = clear-a s v n h e; b = clear-b s v n h e }
 
-pub post-fields : (file : List ℕ) → Runnable file → (n : ℕ) → n < count file 3 → (event : ℕ) → node-at (decode file) n .kind ≡ 20 + event
-    → 0 < event → event < 3 → Fields file n
-post-fields file v n h event e low high = fields-known file v n h (event-of event low high) e
+pub post-fields : (s : Book) → Sound s → (n : ℕ) → n < length (s .nodes) → (event : ℕ) → node-at s n .kind ≡ 20 + event → 0 < event → event < 3 → Fields s n
+post-fields s v n h event e low high = fields-known s v n h (event-of event low high) e
 
 -- a value with its label
 abbrev labelled : {A : Type 0} → A → Label → Lab A
 labelled a label = record { val = a; lab = label }
 
-module _ (file : List ℕ) (ctx : Label) (user above n event : ℕ) where
-  -- the write of the cell, when key and new amount are known
-  writes : ℕ → Lab ℤ → Lab ℤ → Lab ℤ → M (Unit {0})
-  writes fuel x y z =
-      write-cell (script-of file) true (exec (script-of file) true fuel) (env ctx user above) n event (node-at (decode file) n .p) (key x y) (lift (cell event) z)
+-- an expression by another number
+pub named : (code : List ℕ) {cells : ℕ → Lab Cell} {vars : ℕ → Lab ℤ} {run : List ℕ} {before : Label} {v : Value} {run' : List ℕ} {after : Label} {a a' : ℕ} → a ≡ a'
+    → Gives (Evaluates code a) cells vars run before v run' after → Gives (Evaluates code a') cells vars run before v run' after
+named code {cells} {vars} {run} {before} {v} {run'} {after} e d = subst (λ (j : ℕ). Gives (Evaluates code j) cells vars run before v run' after) e d
 
-  -- the new amount and the write, when the key is known
-  amounts : ℕ → Lab ℤ → Lab ℤ → M (Unit {0})
-  amounts fuel x y = NewAmount file n event fuel >>= writes fuel x y
-
-  -- the line b and what follows, when the owner is known
-  lines : ℕ → ℕ → Lab ℤ → M (Unit {0})
-  lines b fuel x = Evaluates file b fuel >>= amounts fuel x
+-- the key and the amount as they are stored
+pub key-stored : (key : List ℤ) (a b z : ℤ) → length key ≡ 3
+    → (key-in (set (set (set key 0 a) 1 b) 2 z) ≡ key-of a b) × (getD (set (set (set key 0 a) 1 b) 2 z) 2 (pos 0) ≡ z)
+key-stored [] a b z e = absurd (omega arith)
+key-stored (x ∷ []) a b z e = absurd (omega arith)
+key-stored (x ∷ y ∷ []) a b z e = absurd (omega arith)
+key-stored (x ∷ y ∷ w ∷ rest) a b z e = (refl, refl)
 
 -- ---- put and clear as one
 
@@ -87,154 +80,138 @@ as-clear : (x : NodeRecord) → x .kind ≡ 22 → cmd-of x ≡ clear (x .p) (x 
 unfolding cmd-of
 as-clear x e = rw e
 
-post-event : (file : List ℕ) (ctx : Label) (user above n : ℕ) {event : ℕ} → Event event → node-at (decode file) n .kind ≡ 20 + event → (fuel : ℕ)
-    → Commands file ctx user above n fuel
-    ≡ (Evaluates file (node-at (decode file) n .a) fuel >>= lines file ctx user above n event (node-at (decode file) n .b) fuel)
-unfolding command NewAmount lines amounts writes lift lit next
-post-event file ctx user above n puts kind fuel =
-    let x : NodeRecord = node-at (decode file) n in
-    command-is file ctx user above n (as-put x kind) fuel
-    ∙ ap (λ (y : NodeRecord).
-    Evaluates file (x .a) fuel >>= λ o. Evaluates file (x .b) fuel >>= λ l. Evaluates file (y .c) fuel >>= writes file ctx user above n 1 fuel o l)
-    (sym (script-node file n))
-post-event file ctx user above n clears kind fuel =
-    let x : NodeRecord = node-at (decode file) n in
-    command-is file ctx user above n (as-clear x kind) fuel
-    ∙ ap (λ (k : Lab ℤ → Lab ℤ → M (Unit {0})). Evaluates file (x .a) fuel >>= λ o. Evaluates file (x .b) fuel >>= k o)
-    (λ i o l s. sym (after-none (writes file ctx user above n 2 fuel o l (lit (pos 0)) s)) i)
-
--- ---- the write
-
-module _ (file : List ℕ) (ctx : Label) (user above n event table : ℕ) (key-label : Label) (owner line : ℤ) (z : Lab Cell) where
-  abbrev k : Key
-  k = key-of owner line
-
-  -- the write of the cell, with a key that has its label apart
-  unfoldable pub written : ℕ → M (Unit {0})
-  written fuel = write-cell (script-of file) true (exec (script-of file) true fuel) (env ctx user above) n event table (labelled k key-label) z
-
-  module _ {inner : Label} (ei : inner ≡ union ctx key-label) where
-    -- the user who writes bears on no trigger
-    posts-then : (fuel : ℕ) → written fuel ≡ (posting true n inner user table k z >> Fires file inner above event (key-place table k) k z fuel)
-    unfolding written write-cell within-label fire trigger-run
-    posts-then fuel = ap (λ (c : Label). posting true n c user table k z >> Fires file c above event (key-place table k) k z fuel) (sym ei)
-
-    module _ (x : Store) (amounts₁ : List ℤ) (presence₁ labels₁ : List ℕ) {r : Posted}
-        (p : Posts n inner user table k z (x .write) (cells x) r (cells-of amounts₁ presence₁ labels₁)) where
-      abbrev x' : Store
-      x' = store amounts₁ presence₁ labels₁ (x .read) (x .write) (x .trace)
-
-      posted-does : (vars : ℕ → Lab ℤ) (left used : ℕ) → used ≤ length (x .trace)
-          → Does (λ fuel. posting true n inner user table k z) vars x left used (ran (posted-end r) left used) vars x'
-      posted-does vars left used u =
-          let e = p .ends vars (rows (x .read)) left (room-in (x .trace) used) in
-          record {
-            records = [];
-            obstacle = e .obstacle;
-            is = λ fuel h. e .is;
-            trace-is = sym (with-none (x .trace) used);
-            used-is = omega arith;
-            fits = u;
-            within = omega arith;
-          }
-
-      module _ (vars : ℕ → Lab ℤ) (left used : ℕ) (u : used ≤ length (x .trace)) where
-        pub write-stops : {r' : Ran} {number i : ℕ} → r ≡ posted.Stopped number i → r' ≡ ran (Stopped number i) left used
-            → Does written vars x left used r' vars x'
-        unfolding posted-end
-        write-stops {r'} {number} {i} e q =
-            let o : posted-end r ≡ Stopped number i = rw e in
-            let d = then-stops (Fires file inner above event (key-place table k) k z) (posted-does vars left used u) _ _ o in
-            does-as posts-then (rw (q, ← o) d)
-
-        pub write-goes : {r' : Ran} {place : ℕ} {x'' : Store} → r ≡ posted.At place
-            → DoesAside (Fires file inner above event place k z) x' left used r' x'' → Does written vars x left used r' vars x''
-        unfolding posted-end
-        write-goes {place = place} e d =
-            let o : posted-end r ≡ Done = rw e in
-            does-as posts-then (then-goes (posted-does vars left used u) o
-            (does-as (λ fuel. ap (λ (q : ℕ). Fires file inner above event q k z fuel) (sym (p .place-is place e))) (d .does vars)))
-
--- ---- 21 put and 22 clear
-
-module _ (file : List ℕ) (ctx : Label) (user above n event : ℕ) where
+module _ (code : List ℕ) (ctx : Label) (who : Who) (n event : ℕ) where
   abbrev node : NodeRecord
-  node = node-at (decode file) n
+  node = node-at (script-of code) n
 
-  module _ (kind : node .kind ≡ 20 + event) (h : 0 < event) (l : event < 3) {a : ℕ} (ea : a ≡ node .a) where
-    post-is : (fuel : ℕ) → Commands file ctx user above n fuel ≡ (Evaluates file a fuel >>= lines file ctx user above n event (node .b) fuel)
-    post-is fuel = post-event file ctx user above n (event-of event h l) kind fuel
-        ∙ ap (λ (j : ℕ). Evaluates file j fuel >>= lines file ctx user above n event (node .b) fuel) (sym ea)
+  -- the write of the cell, when key and new amount are known
+  writes : ℕ → Lab ℤ → Lab ℤ → Lab ℤ → M (Unit {0})
+  writes fuel x y z = write-cell (script-of code) true (exec (script-of code) true fuel) (env ctx who) n event (node .p) (key x y) (lift (cell event) z)
 
-    module _ {vars : ℕ → Lab ℤ} {x : Store} {left used : ℕ} {g : Valued} (d : Gives (Evaluates file a) (cells x) vars left g) where
-      pub owner-stops : {r : Ran} {number i : ℕ} → g .answer ≡ value.Stopped number i → r ≡ ran (stop-of (g .answer)) (g .left) used
-          → used ≤ length (x .trace) → Does (Commands file ctx user above n) vars x left used r vars x
-      owner-stops e q u = does-as post-is (value-stops d (lines file ctx user above n event (node .b)) _ _ e q u)
+  -- the new amount and the write, when the key is known
+  amounts : ℕ → Lab ℤ → Lab ℤ → M (Unit {0})
+  amounts fuel x y = NewAmount code n event fuel >>= writes fuel x y
 
-      module _ {owner : ℤ} (e : g .answer ≡ value.Known owner) {b : ℕ} (eb : b ≡ node .b) {g' : Valued}
-          (d' : Gives (Evaluates file b) (cells x) vars (g .left) g') where
-        to-line : {r : Ran} {vars' : ℕ → Lab ℤ} {x' : Store}
-            → Does (λ fuel. lines file ctx user above n event b fuel (labelled owner (g .label))) vars x (g .left) used r vars' x'
-            → Does (Commands file ctx user above n) vars x left used r vars' x'
-        to-line w = does-as post-is (value-goes d (lines file ctx user above n event (node .b)) owner e
-            (does-as (λ fuel. ap (λ (j : ℕ). lines file ctx user above n event j fuel (labelled owner (g .label))) (sym eb)) w))
+  -- the line and what follows, when the owner is known
+  lines : ℕ → Lab ℤ → M (Unit {0})
+  lines fuel x = Evaluates code (node .b) fuel >>= amounts fuel x
 
-        pub line-stops : {r : Ran} {number i : ℕ} → g' .answer ≡ value.Stopped number i → r ≡ ran (stop-of (g' .answer)) (g' .left) used
-            → used ≤ length (x .trace) → Does (Commands file ctx user above n) vars x left used r vars x
-        unfolding lines
-        line-stops e' q u = to-line (value-stops d' (λ fuel. amounts file ctx user above n event fuel (labelled owner (g .label))) _ _ e' q u)
+post-event : (code : List ℕ) (ctx : Label) (who : Who) (n : ℕ) {event : ℕ} → Event event → node-at (script-of code) n .kind ≡ 20 + event → (fuel : ℕ)
+    → Commands code ctx who n fuel ≡ (Evaluates code (node-at (script-of code) n .a) fuel >>= lines code ctx who n event fuel)
+unfolding command NewAmount lines amounts writes lift lit next
+post-event code ctx who n puts kind fuel = command-is code ctx who n (as-put (node-at (script-of code) n) kind) fuel
+post-event code ctx who n clears kind fuel =
+    let x : NodeRecord = node-at (script-of code) n in
+    command-is code ctx who n (as-clear x kind) fuel
+    ∙ ap (λ (k : Lab ℤ → Lab ℤ → M (Unit {0})). Evaluates code (x .a) fuel >>= λ o. Evaluates code (x .b) fuel >>= k o)
+    (λ i o l s. sym (after-none (writes code ctx who n 2 fuel o l (lit (pos 0)) s)) i)
 
-        module _ {line : ℤ} (e' : g' .answer ≡ value.Known line) {g'' : Valued} (d'' : Gives (NewAmount file n event) (cells x) vars (g' .left) g'') where
-          to-amount : {r : Ran} {vars' : ℕ → Lab ℤ} {x' : Store}
-              → Does (λ fuel. amounts file ctx user above n event fuel (labelled owner (g .label)) (labelled line (g' .label)))
-              vars x (g' .left) used r vars' x'
-              → Does (Commands file ctx user above n) vars x left used r vars' x'
-          unfolding lines
-          to-amount w = to-line (value-goes d' (λ fuel. amounts file ctx user above n event fuel (labelled owner (g .label))) line e' w)
+-- ---- the ways
 
-          pub amount-stops : {r : Ran} {number i : ℕ} → g'' .answer ≡ value.Stopped number i → r ≡ ran (stop-of (g'' .answer)) (g'' .left) used
-              → used ≤ length (x .trace) → Does (Commands file ctx user above n) vars x left used r vars x
-          unfolding amounts
-          amount-stops e'' q u = to-amount (value-stops d''
-              (λ fuel. writes file ctx user above n event fuel (labelled owner (g .label)) (labelled line (g' .label))) _ _ e'' q u)
+module _ (code : List ℕ) (ctx : Label) (who : Who) (n event : ℕ) (kind : node-at (script-of code) n .kind ≡ 20 + event) (h : 0 < event) (l : event < 3)
+    (vars : ℕ → Lab ℤ) (cells : List ℤ) (sets : List (List ℕ)) (run : List ℕ) where
+  abbrev Writing : Posted → List ℤ → List (List ℕ) → List ℕ → Label → Label → List ℤ → Type 0
+  Writing r cells' sets' run' inner label key = Writes code ctx who n event vars cells sets run r cells' sets' run' inner label key
 
-          pub amount-goes : {r : Ran} {vars' : ℕ → Lab ℤ} {x' : Store} {amount : ℤ} → g'' .answer ≡ value.Known amount
-              → {owner' line' amount' : ℤ} → owner' ≡ owner → line' ≡ line → amount' ≡ amount
-              → {table : ℕ} → table ≡ node .p → {key-label : Label} → key-label ≡ union (g .label) (g' .label)
-              → Does (written file ctx user above n event table key-label owner' line' (labelled (cell event amount') (g'' .label)))
-              vars x (g'' .left) used r vars' x'
-              → Does (Commands file ctx user above n) vars x left used r vars' x'
-          unfolding amounts writes written key lift lift2
-          amount-goes e'' eo el em ep ek w = to-amount
-              (value-goes d'' (λ fuel. writes file ctx user above n event fuel (labelled owner (g .label)) (labelled line (g' .label))) _ e''
-              (does-as
-              (λ fuel i. written file ctx user above n event (sym ep i) (sym ek i) (sym eo i) (sym el i) (labelled (cell event (sym em i)) (g'' .label)) fuel)
-              w))
-
--- ---- what was done
-
--- the stop of an expression as that of the write that needed its value
-ends-alike : (v : Value) → posted-end (stop-at v) ≡ stop-of v
-unfolding posted-end stop-at stop-of
-ends-alike (value.Known z) = refl
-ends-alike (value.Stopped number node) = refl
-
-module _ (file : List ℕ) (ctx : Label) (user n event : ℕ) (vars : ℕ → Lab ℤ) (amounts₀ : List ℤ) (presence₀ labels₀ : List ℕ)
-    (write : List (List ℕ)) {left : ℕ} where
   -- the key or the amount has no value
-  pub value-lacks : (g : Valued) {r : Posting} {number i : ℕ} → g .answer ≡ value.Stopped number i → r ≡ unposted (g .answer) (g .left) → g .left ≤ left
-      → ((above : ℕ) (read : List (List ℕ)) (trace : List ℕ) (used : ℕ) (q : Ran) → q ≡ ran (stop-of (g .answer)) (g .left) used → used ≤ length trace
-      → Does (Commands file ctx user above n) vars (store amounts₀ presence₀ labels₀ read write trace) left used q vars
-      (store amounts₀ presence₀ labels₀ read write trace))
-      → Writes file ctx user n event vars amounts₀ presence₀ labels₀ write left r amounts₀ presence₀ labels₀
-  unfolding unposted posted-end stop-of
-  value-lacks g {r} {number} {i} e q w d = record {
-    stops = λ number' i' e' above read trace used u.
-        d above read trace used _ (λ j. ran ((sym (end _ e')) j) (ap (λ (x : Posting). x .left) q j) used) u;
-    goes = λ place e' above read trace used u f. done-not-stopped number i (sym (end _ e') ∙ ap stop-of e);
-    inside = λ place e'. done-not-stopped number i (sym (end _ e') ∙ ap stop-of e);
-    within = rw (ap (λ (x : Posting). x .left) q) w;
+  lacks : {run' : List ℕ} {inner label : Label} {key : List ℤ} → left-of run' ≤ left-of run → used-of run' ≡ used-of run
+      → ((trace : List ℕ) → used-of run ≤ length trace → Does (Commands code ctx who n) vars (store cells sets run trace) Stopped vars (store cells sets run' trace))
+      → Writing posted.Stopped cells sets run' inner label key
+  lacks w e d = record {
+    own = bottom;
+    stops = λ _ trace u. d trace u;
+    goes = λ place q. absurd (none q);
+    label-is = λ place q. absurd (none q);
+    inside = λ place q. absurd (none q);
+    within = w;
+    used-same = e;
+    public-same = refl;
   }
     where
-      end : (p : Posted) → r .posted ≡ p → stop-of (g .answer) ≡ posted-end p
-      end p h = sym (ends-alike (g .answer)) ∙ ap posted-end (sym (ap (λ (x : Posting). x .posted) q) ∙ h)
+      none : {place : ℕ} → posted.Stopped ≡ posted.At place → ⊥
+      none q = let z : _≡_ {A = ℕ} 0 1 = cc in omega arith
+
+  module _ {v₁ : Value} {run₁ : List ℕ} {l₁ : Label} (d₁ : Gives (Evaluates code (node-at (script-of code) n .a)) (cells-held cells sets) vars run ctx v₁ run₁ l₁) where
+    pub owner-stops : {label : Label} {key : List ℤ} → v₁ ≡ value.Stopped → Writing posted.Stopped cells sets run₁ l₁ label key
+    owner-stops e = lacks (d₁ .within) (d₁ .used-same)
+        (λ trace u. does-as (post-event code ctx who n (event-of event h l) kind) (value-stops d₁ (lines code ctx who n event) e u))
+
+    module _ {owner : ℤ} (e₁ : v₁ ≡ value.Known owner) {v₂ : Value} {run₂ : List ℕ} {l₂ : Label}
+        (d₂ : Gives (Evaluates code (node-at (script-of code) n .b)) (cells-held cells sets) vars run₁ l₁ v₂ run₂ l₂) where
+      abbrev x : Lab ℤ
+      x = labelled owner (d₁ .label)
+
+      to-line : (trace : List ℕ) {r : Outcome} {x' : Store}
+          → Does (λ fuel. lines code ctx who n event fuel x) vars (store cells sets run₁ trace) r vars x'
+          → Does (Commands code ctx who n) vars (store cells sets run trace) r vars x'
+      to-line trace w = does-as (post-event code ctx who n (event-of event h l) kind) (value-goes d₁ (lines code ctx who n event) owner e₁ w)
+
+      pub line-stops : {label : Label} {key : List ℤ} → v₂ ≡ value.Stopped → Writing posted.Stopped cells sets run₂ l₂ label key
+      unfolding lines
+      line-stops e = lacks (omega (arith, d₁ .within, d₂ .within)) (d₂ .used-same ∙ d₁ .used-same)
+          (λ trace u. to-line trace (value-stops d₂ (λ fuel. amounts code ctx who n event fuel x) e (omega (arith, d₁ .used-same))))
+
+      module _ {line : ℤ} (e₂ : v₂ ≡ value.Known line) {v₃ : Value} {run₃ : List ℕ} {l₃ : Label}
+          (d₃ : Gives (NewAmount code n event) (cells-held cells sets) vars run₂ l₂ v₃ run₃ l₃) where
+        abbrev y : Lab ℤ
+        y = labelled line (d₂ .label)
+
+        to-amount : (trace : List ℕ) {r : Outcome} {x' : Store}
+            → Does (λ fuel. amounts code ctx who n event fuel x y) vars (store cells sets run₂ trace) r vars x'
+            → Does (Commands code ctx who n) vars (store cells sets run trace) r vars x'
+        unfolding lines
+        to-amount trace w = to-line trace (value-goes d₂ (λ fuel. amounts code ctx who n event fuel x) line e₂ w)
+
+        used-is : used-of run₃ ≡ used-of run
+        used-is = d₃ .used-same ∙ d₂ .used-same ∙ d₁ .used-same
+
+        pub amount-stops : {inner label : Label} {key : List ℤ} → v₃ ≡ value.Stopped → Writing posted.Stopped cells sets run₃ inner label key
+        unfolding amounts
+        amount-stops e = lacks (omega (arith, d₁ .within, d₂ .within, d₃ .within)) used-is
+            (λ trace u. to-amount trace (value-stops d₃ (λ fuel. writes code ctx who n event fuel x y) e (omega (arith, d₁ .used-same, d₂ .used-same))))
+
+        module _ {amount : ℤ} (e₃ : v₃ ≡ value.Known amount) {table : ℕ} (ep : table ≡ node-at (script-of code) n .p) where
+          abbrev k : Key
+          k = key-of owner line
+
+          abbrev z : Lab Cell
+          z = labelled (cell event amount) (d₃ .label)
+
+          inner-is : l₂ ≡ union ctx (union (d₁ .label) (d₂ .label))
+          inner-is = d₂ .joined e₂ ∙ rw (d₁ .joined e₁) (union-assoc ctx (d₁ .label) (d₂ .label))
+
+          -- the user who writes bears on no trigger
+          posts-then : (fuel : ℕ) → writes code ctx who n event fuel x y (labelled amount (d₃ .label))
+              ≡ (posting true n l₂ (who .user) table k z >> Fires code l₂ (who .above) event (key-place table k) k z fuel)
+          unfolding writes key lift lift2 write-cell within-label fire trigger-run
+          posts-then fuel i =
+              posting true n (sym inner-is i) (who .user) (sym ep i) k z >> Fires code (sym inner-is i) (who .above) event (key-place (sym ep i) k) k z fuel
+
+          to-write : (trace : List ℕ) {r : Outcome} {x' : Store}
+              → Does (λ fuel. posting true n l₂ (who .user) table k z >> Fires code l₂ (who .above) event (key-place table k) k z fuel) vars (store cells sets run₃ trace) r vars x'
+              → Does (Commands code ctx who n) vars (store cells sets run trace) r vars x'
+          unfolding amounts
+          to-write trace w = to-amount trace (value-goes d₃ (λ fuel. writes code ctx who n event fuel x y) amount e₃ (does-as posts-then w))
+
+          -- the cell is written, or a test fails
+          pub ends : {r : Posted} {cells' : List ℤ} {sets' : List (List ℕ)} {run' : List ℕ} {key : List ℤ} → key-in key ≡ k → getD key 2 (pos 0) ≡ amount
+              → ((own : Label) → l₃ ≡ union l₂ own → Posts n l₂ (who .user) table k (labelled (cell event amount) own) cells sets run₃ r cells' sets' run')
+              → Writing r cells' sets' run' l₂ l₃ key
+          unfolding posted-end
+          ends {run' = run'} ek em p =
+              let q = p (d₃ .label) (d₃ .joined e₃) in
+              -- a trace that is full holds no more records
+              let full : List ℕ = replicate (used-of run₃) 0 in
+              let size : length full ≡ used-of run₃ = length-replicate (used-of run₃) 0 in
+              let d = q .does vars full (omega arith) in
+              record {
+                own = d₃ .label;
+                stops = λ e trace u. to-write trace (rw e at (then-stops (Fires code l₂ (who .above) event (key-place table k) k z) (q .does vars trace (omega (arith, used-is))) (rw e)));
+                goes = λ place e trace u f. to-write trace (then-goes (q .does vars trace (omega (arith, used-is))) (rw e)
+                    (does-as (λ fuel i. Fires code l₂ (who .above) event (sym (q .place-is place e) i) (sym ek i) (labelled (cell event (sym em i)) (d₃ .label)) fuel) f));
+                label-is = λ place e. d₃ .joined e₃;
+                inside = λ place e. q .place-inside place e;
+                within = omega (arith, d₁ .within, d₂ .within, d₃ .within, d .within);
+                used-same = omega (arith, used-is, d .used-is, d .fits);
+                public-same = d .public-same;
+              }

@@ -11,11 +11,10 @@ use lib.ListN.{getD}
 use lib.Signed.{mag}
 use borrow.Author.Tests.{eq-eqb, ne-eqb}
 use Rattle.places.specs.Sets.{has, union}
-use Rattle.labels.specs.Labels.{label-at}
 use Rattle.monitor.specs.Labelled.{Label, bottom, Lab}
 use Rattle.monitor.specs.Run.{Cell}
 use Rattle.monitor.specs.Rules.{in-box}
-use Rattle.monitor.specs.Call.{cells-of}
+use Rattle.machine.specs.Store.{row-at, present-row, label-row, cells-held}
 use Rattle.queries.specs.declared.Found.{Found}
 use Rattle.queries.specs.Found.{box, found-in}
 use Rattle.queries.specs.Tallies.{start-of, with-amount, value-of, first-from, first-above}
@@ -117,18 +116,19 @@ module _ {kind : ℕ} {cells : ℕ → Lab Cell} {first last low high : ℤ} {ta
     swept = rw add-assoc at p;
   }
 
-module _ {kind : ℕ} (amounts : List ℤ) (presence labels : List ℕ) {first last low high : ℤ} (table : ℕ) {o n : ℕ} {t : ℤ} {l l' : Label} (at : AtLine kind (cells-of amounts presence labels) first last low high table o n t l) (in-lines : n < first-above high) (joined : l' ≡ union l (label-at labels (64 * table + (8 * o + n)))) where
+module _ {kind : ℕ} (amounts : List ℤ) (sets : List (List ℕ)) {first last low high : ℤ} (table : ℕ) {o n : ℕ} {t : ℤ} {l l' : Label} (at : AtLine kind (cells-held amounts sets) first last low high table o n t l) (in-lines : n < first-above high) (joined : l' ≡ union l (row-at sets (label-row + (64 * table + (8 * o + n))))) where
   -- its cell is absent: only its label counts
-  pub meet-absent : (getD presence table 0 / 2 ^ (8 * o + n) % 2 ≡ 1 → ⊥) → AtLine kind (cells-of amounts presence labels) first last low high table o (n + 1) t l'
-  unfolding cells-of
+  pub meet-absent : (getD (row-at sets present-row) table 0 / 2 ^ (8 * o + n) % 2 ≡ 1 → ⊥)
+      → AtLine kind (cells-held amounts sets) first last low high table o (n + 1) t l'
+  unfolding cells-held
   meet-absent e =
       let lt = bit-lt at in-lines in
-      next-line at in-lines (pass-absent kind _ _ _ (8 * o + n) (here at in-lines) joined (at .swept) (presence-at presence table (8 * o + n) lt ∙ ne-eqb _ 1 e))
+      next-line at in-lines (pass-absent kind _ _ _ (8 * o + n) (here at in-lines) joined (at .swept) (presence-at (row-at sets present-row) table (8 * o + n) lt ∙ ne-eqb _ 1 e))
 
   -- its cell is present: its amount counts too
-  pub meet-present : {t' : ℤ} → getD presence table 0 / 2 ^ (8 * o + n) % 2 ≡ 1 → mag (getD amounts (64 * table + (8 * o + n)) (pos 0)) < 2147483648
-      → t' ≡ with-amount kind t (getD amounts (64 * table + (8 * o + n)) (pos 0)) → AtLine kind (cells-of amounts presence labels) first last low high table o (n + 1) t' l'
-  unfolding cells-of
+  pub meet-present : {t' : ℤ} → getD (row-at sets present-row) table 0 / 2 ^ (8 * o + n) % 2 ≡ 1 → mag (getD amounts (64 * table + (8 * o + n)) (pos 0)) < 2147483648
+      → t' ≡ with-amount kind t (getD amounts (64 * table + (8 * o + n)) (pos 0)) → AtLine kind (cells-held amounts sets) first last low high table o (n + 1) t' l'
+  unfolding cells-held
   meet-present e small more =
       let lt = bit-lt at in-lines in
-      next-line at in-lines (pass-present kind _ _ _ (8 * o + n) (here at in-lines) joined (at .swept) (presence-at presence table (8 * o + n) lt ∙ eq-eqb _ 1 e) small more)
+      next-line at in-lines (pass-present kind _ _ _ (8 * o + n) (here at in-lines) joined (at .swept) (presence-at (row-at sets present-row) table (8 * o + n) lt ∙ eq-eqb _ 1 e) small more)

@@ -1,8 +1,9 @@
 // Queries: count, sum, smallest and largest over the cells of a table in a box of owners and lines.
+use machine::Sets;
 ghost use mathlib.Core.Path.{_≡_};
 ghost use Prim.Native.Nat.{_^_, _<_};
 ghost use lib.Signed.{mag};
-ghost use Rattle.monitor.specs.Call.{cells-of};
+ghost use Rattle.machine.specs.Store.{cells-held};
 ghost use Rattle.queries.specs.Found.{box, found-in};
 ghost use Rattle.queries.specs.Tallies.{start-of, with-amount, value-of, first-from, first-above};
 
@@ -85,17 +86,16 @@ pub fn query(
     last: i32,
     low: i32,
     high: i32,
-    amounts: &[i32; 512],
-    presence: &[u64; 8],
-    labels: &[u64; 4096],
+    cells: &[i32; 512],
+    sets: &Sets,
 ) -> Found
     requires { ⌜ table < 8 ⌝ }
-    ensures { λ r. ⌜ r ≡ found-in kind (cells-of (now (amounts .entry)) (now (presence .entry)) (now (labels .entry))) (box first last low high) table ⌝ }
+    ensures { λ r. ⌜ r ≡ found-in kind (cells-held (now (cells .entry)) (now (sets .entry))) (box first last low high) table ⌝ }
 {
     let end_owner = first_above(last);
     let start_line = first_from(low);
     let end_line = first_above(high);
-    let present = presence[table];
+    let present = sets[machine::PRESENT][table];
     let mut tally = start(kind);
     let mut label = [0u64; 8];
     let mut owner = first_from(first);
@@ -104,10 +104,10 @@ pub fn query(
         while line < end_line {
             let bit = 8 * owner + line;
             let place = 64 * table + bit;
-            let next = places::union(label, labels::label_at(labels, place));
+            let next = places::union(label, sets[machine::LABELS + place]);
             label = next;
             if (present >> bit) % 2 == 1 {
-                let more = counted(kind, tally, amounts[place]);
+                let more = counted(kind, tally, cells[place]);
                 tally = more;
             }
             line += 1;

@@ -1,26 +1,26 @@
 -- The rights at the start: one record more, from the last to the first. Assumes nothing.
-use mathlib.Core.Path.{_≡_, refl, sym, ap, _∙_}
+use mathlib.Core.Path.{_≡_, sym, ap, _∙_}
 use mathlib.Core.List.{List, [], _∷_}
 use Prim.Native.Nat.{ℕ, suc, _+_, _-_, _*_, _≤_, _<_}
+use native.Mathlib.Nat.{mul-comm}
 use native.Mathlib.Omega.{arith}
+use lib.Dec.{leb, ltb}
 use lib.ListN.{length, getD, drop, replicate, drop-of-length-le}
 use lib.Seq.{drop-cons}
-use borrow.Author.Tests.{eq-eqb, ne-eqb}
+use borrow.Author.Tests.{eq-eqb, ne-eqb, ltb-true, not-false}
 use Rattle.places.specs.Sets.{set-of, union}
 use Rattle.regions.specs.Regions.{in-region, region-set}
 use Rattle.regions.specs.declared.Region.{Region}
 use Rattle.places.proofs.Sets.{union-set-of}
 use Rattle.places.proofs.Shapes.{set-of-cong, set-of-none}
 use Rattle.book.specs.Bytes.{byte}
-use Rattle.book.specs.Records.{RightRecord, Book, region-of, regions-format, rights-format}
-use Rattle.book.specs.Layout.{count, section, decode}
-use Rattle.book.specs.Refusals.{no-region, no-right, verdict}
+use Rattle.book.specs.Records.{RightRecord, Book, region-of, rights-format}
+use Rattle.book.specs.Refusals.{no-region, no-right, right-fits, bad-right}
 use Rattle.book.specs.Start.{rights-hold, right-set}
-use Rattle.book.specs.declared.Section.{Section}
-use Rattle.book.specs.declared.Verdict.the-variants.{Accepted}
-use Rattle.book.proofs.Decoded.{count-rights, region-read, right-read}
-use Rattle.book.proofs.Accepted.{placed, accepted, regions-inside, region-inside, region-table}
-use Rattle.rights.proofs.Accepted.{right-at, region-exists}
+use Rattle.book.proofs.Chains.{both}
+use Rattle.book.proofs.Records.{length-records, record-at}
+use Rattle.monitor.specs.Rules.{region-places}
+use Rattle.machine.specs.Script.{rights-start, held-count, script-of, Runnable}
 
 -- ---- the set of some records
 
@@ -54,77 +54,93 @@ module _ (b : Book) (kind user : ℕ) where
 
 -- ---- the loop: the records from `right` on are gathered
 
-pub record Gathering (s : List ℕ) (kind user first start : ℕ) (words : List ℕ) (right : ℕ) : Type 0 where
-  pub regions-at : first ≡ section s 1 .start
-  pub rights-at : start ≡ section s 2 .start
-  pub inside : start + count s 2 * 4 ≤ length s
-  pub upto : right ≤ count s 2
-  pub words-are : words ≡ held (decode s) kind user (drop right (decode s .rights))
+pub record Gathering (b : Book) (kind user : ℕ) (words : List ℕ) (right : ℕ) : Type 0 where
+  pub upto : right ≤ length (b .rights)
+  pub words-are : words ≡ held b kind user (drop right (b .rights))
 
-module _ (s : List ℕ) (v : verdict s ≡ Accepted) (kind user : ℕ) where
-  pub gathering-none : {x y : Section} → x ≡ section s 1 → y ≡ section s 2 → Gathering s kind user (x .start) (y .start) (replicate 8 0) (y .count)
-  gathering-none {x} {y} e f =
-      let none : drop (count s 2) (decode s .rights) ≡ [] = drop-of-length-le (decode s .rights) {i = count s 2} (omega (arith, count-rights s)) in
-      rw (e, f) (record {
-        regions-at = refl;
-        rights-at = refl;
-        inside = omega (arith, placed s v .nodes-start);
-        upto = omega arith;
-        words-are = held-none (decode s) kind user ∙ ap (held (decode s) kind user) (sym none);
-      })
+module _ (code : List ℕ) (v : Runnable code) (kind user : ℕ) where
+  abbrev b : Book
+  b = script-of code
 
-  module _ {first start right : ℕ} {words : List ℕ} (g : Gathering s kind user first start words right) (h : 0 < right) where
+  rights-count : length (b .rights) ≡ held-count code 1
+  unfolding script-of
+  rights-count = length-records rights-format _ _ code
+
+  pub gathering-none : {right : ℕ} → right ≡ held-count code 1 → Gathering b kind user (replicate 8 0) right
+  gathering-none {right} e =
+      let none : drop right (b .rights) ≡ [] = drop-of-length-le (b .rights) {i = right} (omega (arith, e, rights-count)) in
+      record {
+        upto = omega (arith, e, rights-count);
+        words-are = held-none b kind user ∙ ap (held b kind user) (sym none);
+      }
+
+  module _ {right : ℕ} {words : List ℕ} (g : Gathering b kind user words right) (h : 0 < right) where
     abbrev i : ℕ
     i = right - 1
 
-    lt : i < count s 2
+    abbrev at : ℕ
+    at = rights-start + 4 * i
+
+    abbrev r : RightRecord
+    r = getD (b .rights) i no-right
+
+    lt : i < length (b .rights)
     lt = omega (arith, g .upto)
 
-    more : drop i (decode s .rights) ≡ right-at s i ∷ drop right (decode s .rights)
-    more =
-        let n : suc i ≡ right = omega arith in
-        drop-cons (decode s .rights) i no-right (omega (arith, lt, count-rights s)) ∙ rw (n, right-read s i no-right lt)
+    -- the record stands in the script
+    pub right-end : at + 4 ≤ 17260
+    right-end = omega (arith, lt, v .sound .few-rights)
 
-    on : (words′ : List ℕ) → words′ ≡ held (decode s) kind user (right-at s i ∷ drop right (decode s .rights)) → Gathering s kind user first start words′ i
-    on words′ e = record {
-      regions-at = g .regions-at;
-      rights-at = g .rights-at;
-      inside = g .inside;
-      upto = omega (arith, g .upto);
-      words-are = e ∙ ap (held (decode s) kind user) (sym more);
-    }
+    right-read : r ≡ rights-format .read code at
+    unfolding script-of rights-format
+    right-read = record-at rights-format _ rights-start code i no-right (omega (arith, lt, rights-count)) ∙ ap (λ (k : ℕ). rights-format .read code (rights-start + k)) (mul-comm i 4)
+
+    kind-read : byte code at ≡ r .kind
+    unfolding rights-format
+    kind-read = ap (λ (x : RightRecord). x .kind) (sym right-read)
+
+    user-read : byte code (at + 1) ≡ r .user
+    unfolding rights-format
+    user-read = ap (λ (x : RightRecord). x .user) (sym right-read)
+
+    region-read : byte code (at + 2) ≡ r .region
+    unfolding rights-format
+    region-read = ap (λ (x : RightRecord). x .region) (sym right-read)
 
     -- the region that it names
-    pub region-fits-in : first + byte s (start + i * 4 + 2) * 8 + 8 ≤ length s
-    unfolding rights-format
-    region-fits-in = rw (g .regions-at, g .rights-at) (region-inside s _ (region-exists s v i lt) (regions-inside (placed s v)))
+    pub region-exists : byte code (at + 2) < length (b .regions)
+    unfolding bad-right right-fits
+    region-exists =
+        let fits = not-false (right-fits b r) (v .sound .rights-ok i lt) in
+        let kind-ok = both (leb (r .kind) 2) _ fits in
+        let user-ok = both (leb (r .user) _) _ (kind-ok .1) in
+        let region-ok = both (ltb (r .region) (length (b .regions))) _ (user-ok .1) in
+        omega (arith, region-read, ltb-true (r .region) (length (b .regions)) (region-ok .0))
 
-    pub table-fits-in : region-of (regions-format .read s (first + byte s (start + i * 4 + 2) * 8)) .table < 8
-    unfolding rights-format
-    table-fits-in = rw (g .regions-at, g .rights-at) (region-table s _ (region-exists s v i lt) (accepted s v .regions-ok _ (region-exists s v i lt)))
+    on : (words′ : List ℕ) → words′ ≡ held b kind user (r ∷ drop right (b .rights)) → Gathering b kind user words′ i
+    on words′ e =
+        let n : suc i ≡ right = omega arith in
+        let more : drop i (b .rights) ≡ r ∷ drop right (b .rights) = drop-cons (b .rights) i no-right lt ∙ rw n in
+        record { upto = omega (arith, g .upto); words-are = e ∙ ap (held b kind user) (sym more) }
 
     -- the record is of another kind
-    pub gathered-kind : (byte s (start + i * 4) ≡ kind → ⊥) → Gathering s kind user first start words i
-    unfolding rights-format
-    gathered-kind k = on words (g .words-are ∙ held-kind (decode s) kind user (right-at s i) (drop right (decode s .rights)) (rw (g .rights-at) at k))
+    pub gathered-kind : (byte code at ≡ kind → ⊥) → Gathering b kind user words i
+    gathered-kind k = on words (g .words-are ∙ held-kind b kind user r (drop right (b .rights)) (λ e. k (kind-read ∙ e)))
 
     -- it is for another user
-    pub gathered-user : byte s (start + i * 4) ≡ kind → (byte s (start + i * 4 + 1) ≡ user → ⊥) → Gathering s kind user first start words i
-    unfolding rights-format
+    pub gathered-user : byte code at ≡ kind → (byte code (at + 1) ≡ user → ⊥) → Gathering b kind user words i
     gathered-user k u =
-        on words (g .words-are ∙ held-user (decode s) kind user (right-at s i) (drop right (decode s .rights)) (rw (g .rights-at) at k) (rw (g .rights-at) at u))
+        on words (g .words-are ∙ held-user b kind user r (drop right (b .rights)) (sym kind-read ∙ k) (λ e. u (user-read ∙ e)))
 
     -- it counts
-    pub gathered-more : byte s (start + i * 4) ≡ kind → byte s (start + i * 4 + 1) ≡ user
-        → (region : Region) (places words′ : List ℕ) → region ≡ region-of (regions-format .read s (first + byte s (start + i * 4 + 2) * 8))
-        → places ≡ region-set 8 region → words′ ≡ union places words → Gathering s kind user first start words′ i
-    unfolding rights-format
-    gathered-more k u region places words′ r p w =
-        let j : ℕ = right-at s i .region in
-        let e : region ≡ region-of (getD (decode s .regions) j no-region) = r ∙ rw (g .regions-at, g .rights-at, region-read s j no-region (region-exists s v i lt)) in
-        on words′ (w ∙ rw (p, e, g .words-are) (held-more (decode s) kind user (right-at s i) (drop right (decode s .rights)) (rw (g .rights-at) at k) (rw (g .rights-at) at u)))
+    pub gathered-more : byte code at ≡ kind → byte code (at + 1) ≡ user
+        → (region : ℕ) (places words′ : List ℕ) → region ≡ byte code (at + 2) → places ≡ region-places b region → words′ ≡ union places words
+        → Gathering b kind user words′ i
+    unfolding region-places
+    gathered-more k u region places words′ e p w =
+        on words′ (w ∙ rw (p, e ∙ region-read, g .words-are) (held-more b kind user r (drop right (b .rights)) (sym kind-read ∙ k) (sym user-read ∙ u)))
 
-  pub gathered : {first start right : ℕ} {words : List ℕ} → Gathering s kind user first start words right → right ≤ 0 → words ≡ right-set (decode s) kind user
+  pub gathered : {right : ℕ} {words : List ℕ} → Gathering b kind user words right → right ≤ 0 → words ≡ right-set b kind user
   unfolding right-set
   gathered {right = right} g h =
       let e : right ≡ 0 = omega arith in

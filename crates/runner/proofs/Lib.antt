@@ -1,3 +1,3 @@
-pub mod Behind
 pub mod Calls
 pub mod Results
+pub mod Stored

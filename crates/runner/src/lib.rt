@@ -1,92 +1,73 @@
 // The runner: the entry that takes a file, a budget and lent memory.
-use machine::Ran;
+use machine::Sets;
 use monitor::Answer;
 ghost use mathlib.Core.Path.{_≡_};
 ghost use mathlib.Core.Bool.{true};
+ghost use Prim.Native.Nat.{_≤_};
+ghost use lib.ListN.{length};
 ghost use Rattle.book.specs.Start.{Lengths};
+ghost use Rattle.book.specs.Refusals.{verdict};
 ghost use Rattle.book.specs.declared.Verdict.the-variants.{Accepted};
 ghost use Rattle.loader.specs.Load.{lent-fits};
-ghost use Rattle.monitor.specs.Call.{answered};
+ghost use Rattle.monitor.specs.Call.{amounts-in, presence-in, labels-in, answered};
+ghost use Rattle.machine.specs.Store.{cells-held};
 ghost use Rattle.entry.specs.Entry.{lent, result, Runs};
-ghost use Rattle.runner.specs.Start.{Loaded, Ended};
+
+// Stores the words of a row in lent memory.
+fn store_words(row: [u64; 8], words: &mut [u64])
+    requires { ⌜ length (now words) ≡ 8 ⌝ }
+    ensures { λ _. ⌜ now (words .exit) ≡ row ⌝ }
+{
+    memory::copy_words(&row, words);
+}
 
 // Stores the cells that a run leaves in lent memory.
 fn store_cells(
-    values: &[i32; 512],
-    present: &[u64; 8],
-    tags: &[u64; 4096],
+    cells: &[i32; 512],
+    sets: &Sets,
     amounts: &mut [i32],
     presence: &mut [u64],
     labels: &mut [u64],
 )
     requires { ⌜ Lengths (now amounts) (now presence) (now labels) ⌝ }
-    ensures { λ _. ⌜ (now (amounts .exit) ≡ now (values .entry)) × (now (presence .exit) ≡ now (present .entry)) × (now (labels .exit) ≡ now (tags .entry)) ⌝ }
+    ensures { λ _. ⌜ (now (amounts .exit) ≡ amounts-in (cells-held (now (cells .entry)) (now (sets .entry))))
+        × (now (presence .exit) ≡ presence-in (cells-held (now (cells .entry)) (now (sets .entry))))
+        × (now (labels .exit) ≡ labels-in (cells-held (now (cells .entry)) (now (sets .entry))) 512) ⌝ }
 {
-    memory::copy_amounts(values, amounts);
-    memory::copy_words(present, presence);
-    memory::copy_words(tags, labels);
+    memory::copy_amounts(cells, amounts);
+    store_words(sets[machine::PRESENT], presence);
+    let mut place: usize = 0;
+    while place < 512 {
+        labels::set_label(labels, place, sets[machine::LABELS + place]);
+        place += 1;
+    }
 }
 
-// Runs the programs of a book whose start state is in the arrays. The book itself is copied to the end of an array, which is lent as one
-// address, where a slice is not. Its sections are found from the end, so that what stands before it is not read.
-fn run_programs(
-    file: &[u8],
-    budget: u32,
-    amounts: &mut [i32; 512],
-    presence: &mut [u64; 8],
-    labels: &mut [u64; 4096],
-    trace: &mut [u8],
-) -> Ran
-    requires { ⌜ Loaded (now file) (lent (now amounts) (now presence) (now labels) (now trace)) ⌝ }
-    ensures { λ r. ⌜ Ended (now (file .entry)) budget (lent (now (amounts .entry)) (now (presence .entry)) (now (labels .entry)) (now (trace .entry)))
-        r (lent (now (amounts .exit)) (now (presence .exit)) (now (labels .exit)) (now (trace .exit))) ⌝ }
-{
-    let mut script = [0u8; 21380];
-    let size = file.len();
-    encoder::copy_part(file, 0, size, &mut script, 21380 - size);
-    let nodes = book::section_at(&script, 3).start;
-    let costs = kinds::costs();
-    let public = rights::public_set(file);
-    let mut read = rights::right_sets(file, 1);
-    let mut write = rights::right_sets(file, 2);
-    programs::programs(
-        &script,
-        nodes,
-        &costs,
-        &public,
-        0,
-        budget,
-        &mut read,
-        &mut write,
-        amounts,
-        presence,
-        labels,
-        trace,
-        0,
-    )
-}
-
-// Runs an accepted book whose start state is in arrays of its own; at the end lent memory gets what they hold. The run works on arrays, so that
-// no function below asks for their lengths.
+// Runs an accepted book from its start state; at the end lent memory gets its cells. The run works on arrays of its own, so that no function
+// below asks for their lengths.
 fn started(
     file: &[u8],
     budget: u32,
-    values: &mut [i32; 512],
-    present: &mut [u64; 8],
-    tags: &mut [u64; 4096],
     amounts: &mut [i32],
     presence: &mut [u64],
     labels: &mut [u64],
     trace: &mut [u8],
 ) -> Answer
-    requires { ⌜ Loaded (now file) (lent (now values) (now present) (now tags) (now trace)) ⌝ }
-    requires { ⌜ Lengths (now amounts) (now presence) (now labels) ⌝ }
+    requires { ⌜ (verdict (now file) ≡ Accepted) × Lengths (now amounts) (now presence) (now labels) × (length (now trace) ≤ 65536) ⌝ }
     ensures { λ r. ⌜ result r (lent (now (amounts .exit)) (now (presence .exit)) (now (labels .exit)) (now (trace .exit)))
-        ≡ answered true (now (file .entry)) budget (lent (now (values .entry)) (now (present .entry)) (now (tags .entry)) (now (trace .entry))) Accepted ⌝ }
+        ≡ answered true (now (file .entry)) budget (lent (now (amounts .entry)) (now (presence .entry)) (now (labels .entry)) (now (trace .entry))) Accepted ⌝ }
 {
-    let ran = run_programs(file, budget, values, present, tags, trace);
-    store_cells(values, present, tags, amounts, presence, labels);
-    entry::answer_of(ran, budget)
+    let mut cells = [0i32; 512];
+    let present = loader::load_cells(file, &mut cells);
+    let mut code = [0u8; 17366];
+    start::copy_script(file, &mut code);
+    let none = [0u64; 8];
+    let mut sets = [none; 530];
+    start::start_sets(&code, present, &mut sets);
+    let mut run = [budget, 0, 0, 0];
+    let outcome = programs::programs(&code, &mut cells, &mut sets, &mut run, trace);
+    store_cells(&cells, &sets, amounts, presence, labels);
+    entry::answer_of(outcome, &run, budget)
 }
 
 // Whether lent memory has 512 amounts, 8 presence words and 4,096 label words.
@@ -124,21 +105,8 @@ pub fn run(
     if !lengths_fit(amounts, presence, labels) {
         return Answer::Refused(1, 0);
     }
-    let mut values = [0i32; 512];
-    let mut present = [0u64; 8];
-    let mut tags = [0u64; 4096];
-    match loader::load(file, &mut values, &mut present, &mut tags) {
+    match reader::inspect(file) {
         book::Verdict::Refused(number, index) => Answer::Refused(number, index),
-        book::Verdict::Accepted => started(
-            file,
-            budget,
-            &mut values,
-            &mut present,
-            &mut tags,
-            amounts,
-            presence,
-            labels,
-            trace,
-        ),
+        book::Verdict::Accepted => started(file, budget, amounts, presence, labels, trace),
     }
 }

@@ -1,49 +1,53 @@
 -- The record at the end of an out, a grant or a revoke: stop 30 where the trace is full, and else its bytes. Assumes nothing.
-use mathlib.Core.Path.{_≡_, sym, ap, _∙_, subst}
+use mathlib.Core.Path.{_≡_, sym, _∙_}
 use mathlib.Core.List.{List, [], _∷_, _++_}
 use Prim.Native.Nat.{ℕ, _+_, _-_, _≤_, _<_}
-use native.Mathlib.Nat.{le-refl}
 use native.Mathlib.Omega.{arith}
 use lib.Dec.{leb}
 use lib.IntN.{ℤ}
-use lib.ListN.{length, take, drop}
+use lib.ListN.{length, take, drop, set}
+use lib.Seq.{getD-set-same, getD-set-other}
 use Rattle.book.specs.Bytes.{four, bits32}
 use Rattle.monitor.specs.Labelled.{bottom, Lab}
 use Rattle.monitor.specs.Run.{Rights, Rec, said, changed, done, plainly, commit, recorded, tell}
 use Rattle.monitor.specs.Call.{record-bytes}
-use Rattle.machine.specs.Store.{Store, store, rights-of, state, room-in, with-records}
-use Rattle.machine.specs.Promises.{ran, ended, Does}
+use Rattle.machine.specs.Store.{row-at, public-row, cells-held, rights-in, left-of, used-of, Store, store, state, room-in, with-records}
+use Rattle.machine.specs.Promises.{Stops, ended, Does}
+use Rattle.machine.specs.declared.Outcome.{Outcome}
 use Rattle.machine.specs.declared.Outcome.the-variants.{Done, Stopped}
-use Rattle.machine.specs.declared.Ran.{Ran}
-use Rattle.machine.proofs.Runs.{guard-true, guard-false, quietly}
+use Rattle.machine.proofs.Runs.{guard-true, guard-false, with-run, stops-on}
 use Rattle.machine.proofs.Traces.{record-added, no-room, some-room, room-after}
 
-module _ (n : ℕ) (r : Rec) (f : Rights → Rights) {vars : ℕ → Lab ℤ} {x : Store} {left used : ℕ} where
-  pub tell-full : {q : Ran} → used ≤ length (x .trace) → length (x .trace) < used + 8 → q ≡ ran (Stopped 30 n) left used
-      → Does (λ fuel. tell n r f) vars x left used q vars x
-  unfolding tell ended
-  tell-full u h e = quietly (Stopped 30 n) bottom left e (le-refl left) u
-      (λ fuel _. guard-false (λ s. plainly (leb 1 (s .room))) 30 n (commit (r ∷ []) (recorded f)) (state vars x left used) (no-room (x .trace) used h))
+module _ (n : ℕ) (r : Rec) (f : Rights → Rights) {vars : ℕ → Lab ℤ} {x : Store} where
+  pub tell-full : {o : Outcome} {run : List ℕ} → used-of (x .run) ≤ length (x .trace) → length (x .trace) < used-of (x .run) + 8 → (o ≡ Stopped) × Stops (x .run) 30 n run
+      → Does (λ fuel. tell n r f) vars x o vars (with-run x run)
+  unfolding tell
+  tell-full u h s = rw (s .0) (stops-on u bottom (s .1)
+      (λ fuel _. guard-false (λ s. plainly (leb 1 (s .room))) 30 n (commit (r ∷ []) (recorded f)) (state vars x) (no-room (x .trace) (used-of (x .run)) h)))
 
-  pub tell-writes : {q : Ran} {read write : List (List ℕ)} {trace : List ℕ} → used + 8 ≤ length (x .trace) → trace ≡ with-records (x .trace) used (r ∷ [])
-      → f (rights-of (x .read) (x .write)) ≡ rights-of read write → q ≡ ran Done left (used + 8)
-      → Does (λ fuel. tell n r f) vars x left used q vars (store (x .amounts) (x .presence) (x .labels) read write trace)
+  -- the sets after it have the same cells and the same public set, and the rights that f gives
+  pub tell-writes : {sets : List (List ℕ)} {trace : List ℕ} → length (x .run) ≡ 4 → used-of (x .run) + 8 ≤ length (x .trace)
+      → trace ≡ with-records (x .trace) (used-of (x .run)) (r ∷ []) → cells-held (x .amounts) (x .sets) ≡ cells-held (x .amounts) sets
+      → f (rights-in (x .sets)) ≡ rights-in sets → row-at sets public-row ≡ row-at (x .sets) public-row
+      → Does (λ fuel. tell n r f) vars x Done vars (store (x .amounts) sets (set (x .run) 1 (used-of (x .run) + 8)) trace)
   unfolding tell ended
-  tell-writes {read = read} {write = write} {trace = trace} h et ef e =
-      let x' : Store = store (x .amounts) (x .presence) (x .labels) read write trace in
-      let moved = ap (λ (t : List ℕ). room-in t (used + 8)) (sym et) in
-      let room : room-in (x .trace) used - 1 ≡ room-in trace (used + 8) = room-after (x .trace) used h r ∙ moved in
-      subst (λ q. Does (λ fuel. tell n r f) vars x left used q vars x') (sym e)
-      (record {
+  tell-writes {sets = sets} {trace = trace} four h et ec ef ep =
+      let used : ℕ = used-of (x .run) in
+      let run : List ℕ = set (x .run) 1 (used + 8) in
+      let now : used-of run ≡ used + 8 = getD-set-same (x .run) 1 (used + 8) 0 (omega arith) in
+      let same : left-of run ≡ left-of (x .run) = getD-set-other (x .run) 1 0 (used + 8) 0 (λ e. omega (arith, e)) in
+      let room : room-in (x .trace) used - 1 ≡ room-in trace (used-of run) = rw (now, et) (room-after (x .trace) used h r) in
+      record {
         records = r ∷ [];
         obstacle = bottom;
-        is = λ fuel _. guard-true (λ s. plainly (leb 1 (s .room))) 30 n (commit (r ∷ []) (recorded f)) (state vars x left used) (some-room (x .trace) used h)
-            ∙ (λ i. done (r ∷ []) tt (record { cells = state vars x left used .cells; vars = vars; rights = ef i; left = left; room = room i }));
+        is = λ fuel _. guard-true (λ s. plainly (leb 1 (s .room))) 30 n (commit (r ∷ []) (recorded f)) (state vars x) (some-room (x .trace) used h)
+            ∙ (λ i. done (r ∷ []) tt (record { cells = ec i; vars = vars; rights = ef i; left = sym same i; room = room i }));
         trace-is = et;
-        used-is = omega arith;
-        fits = h;
-        within = le-refl left;
-      })
+        used-is = now;
+        fits = omega (arith, now);
+        within = omega (arith, same);
+        public-same = ep;
+      }
 
 -- ---- the bytes, as they stand in the part that is lent on
 

@@ -1,13 +1,13 @@
 // Triggers: whether one fits a write, and the variables with which it runs.
 use machine::Script;
-use machine::Variables;
 ghost use mathlib.Core.Path.{_≡_};
 ghost use Prim.Native.Nat.{_-_, _<_};
-ghost use Rattle.book.specs.Layout.{count, section};
-ghost use Rattle.monitor.specs.Rules.{fitting, trigger-at, trigger-vars};
-ghost use Rattle.machine.specs.Ready.{script-of, Runnable};
-ghost use Rattle.machine.specs.Store.{vars-of, cell};
-ghost use Rattle.machine.specs.Writes.{key-of};
+ghost use lib.IntN.{pos};
+ghost use lib.ListN.{length, getD};
+ghost use Rattle.monitor.specs.Run.{update};
+ghost use Rattle.monitor.specs.Rules.{fitting, trigger-at};
+ghost use Rattle.machine.specs.Script.{script-of, Runnable};
+ghost use Rattle.machine.specs.Store.{row-at, vars-of};
 ghost use Rattle.triggers.specs.Search.{first-fitting};
 
 // The first trigger that fits a write: its number, its user and its body.
@@ -17,32 +17,31 @@ pub enum Fitting {
 }
 
 // Whether trigger `t` fits the write of the cell at `place`: its event, and its region holds the place.
-fn fits(file: &Script, triggers: book::Section, t: usize, event: u8, place: usize) -> bool
-    requires { ⌜ Runnable (now file) × (triggers ≡ section (now file) 5) × (t < count (now file) 5) × (place < 512) ⌝ }
-    ensures { λ r. ⌜ r ≡ fitting (script-of (now (file .entry))) event place (trigger-at (script-of (now (file .entry))) t) ⌝ }
+fn fits(code: &Script, t: usize, event: u8, place: usize) -> bool
+    requires { ⌜ Runnable (now code) × (t < length (script-of (now code) .triggers)) × (place < 512) ⌝ }
+    ensures { λ r. ⌜ r ≡ fitting (script-of (now (code .entry))) event place (trigger-at (script-of (now (code .entry))) t) ⌝ }
 {
-    let start = triggers.start;
-    let at = start + 8 * t;
-    if file[at + 1] != event {
+    let at = machine::TRIGGERS + 8 * t;
+    if code[at + 1] != event {
         return false;
     }
-    machine::region_holds(file, numbers::byte_at(file, at), place)
+    machine::region_holds(code, numbers::byte_at(code, at), place)
 }
 
 // The first trigger from number `t` on that fits the write of the cell at `place`.
-pub fn next_fitting(file: &Script, t: usize, event: u8, place: usize) -> Fitting
-    requires { ⌜ Runnable (now file) × (place < 512) ⌝ }
-    ensures { λ r. ⌜ r ≡ first-fitting (now (file .entry)) event place (count (now (file .entry)) 5 - t) t ⌝ }
+pub fn next_fitting(code: &Script, t: usize, event: u8, place: usize) -> Fitting
+    requires { ⌜ Runnable (now code) × (place < 512) ⌝ }
+    ensures { λ r. ⌜ r ≡ first-fitting (now (code .entry)) event place (length (script-of (now (code .entry)) .triggers) - t) t ⌝ }
 {
-    let triggers = book::section_at(file, 5);
+    let count = numbers::u16_at(code, machine::TRIGGERS_COUNT);
     let mut number = t;
-    while number < triggers.count {
-        if fits(file, triggers, number, event, place) {
-            let at = triggers.start + 8 * number;
+    while number < count {
+        if fits(code, number, event, place) {
+            let at = machine::TRIGGERS + 8 * number;
             return Fitting::Trigger(
                 number,
-                numbers::byte_at(file, at + 2),
-                numbers::u16_at(file, at + 4),
+                numbers::byte_at(code, at + 2),
+                numbers::u16_at(code, at + 4),
             );
         }
         number += 1;
@@ -50,29 +49,24 @@ pub fn next_fitting(file: &Script, t: usize, event: u8, place: usize) -> Fitting
     Fitting::None
 }
 
-// A trigger's variables: owner and line with the context as label, the amount with its own label added, and 0 for the others.
-pub fn variables(
-    ctx: &[u64; 8],
-    owner: i32,
-    line: i32,
-    event: u8,
-    amount: i32,
+// Makes the first three of a trigger's variables owner, line and amount of the write that fired it, and the amount's label `label`. The slices
+// tell the proof how long the arrays are.
+pub fn set_variables(
+    key: &[i32; 3],
     label: &[u64; 8],
-) -> Variables
-    ensures { λ r. ⌜ vars-of (r .values) (r .tags) ≡ trigger-vars (now (ctx .entry)) (key-of owner line) (record { val = cell event amount; lab = now (label .entry) }) ⌝ }
+    vars: &mut [i32; 16],
+    tags: &mut [[u64; 8]; 16],
+)
+    ensures { λ _. ⌜ vars-of (now (vars .exit)) (now (tags .exit)) ≡ update (update (update (vars-of (now (vars .entry)) (now (tags .entry)))
+        0 (record { val = getD (now (key .entry)) 0 (pos 0); lab = row-at (now (tags .entry)) 0 }))
+        1 (record { val = getD (now (key .entry)) 1 (pos 0); lab = row-at (now (tags .entry)) 1 }))
+        2 (record { val = getD (now (key .entry)) 2 (pos 0); lab = now (label .entry) }) ⌝ }
 {
-    let mut values = [0i32; 16];
-    values[0] = owner;
-    values[1] = line;
-    values[2] = amount;
-    let context = *ctx;
-    let added = *label;
-    let mut tags = [0u64; 128];
-    let mut p: usize = 0;
-    while p < 16 {
-        labels::set_label(&mut tags, p, context);
-        p += 1;
-    }
-    labels::set_label(&mut tags, 2, places::union(context, added));
-    Variables { values, tags }
+    let values: &[i32] = vars;
+    let labels: &[[u64; 8]] = tags;
+    vars[0] = key[0];
+    vars[1] = key[1];
+    vars[2] = key[2];
+    let own = *label;
+    tags[2] = own;
 }

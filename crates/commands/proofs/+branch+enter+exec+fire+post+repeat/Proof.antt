@@ -6,6 +6,9 @@ mod Exec
 mod Fire
 mod Post
 mod Repeat
+use native.Mathlib.Omega.{arith}
+use borrow.Author.Needs.{needs}
+use Rattle.commands.proofs.Steps.{does-keeps}
 use Rattle.commands.proofs.branch.Reads as branch
 use Rattle.commands.proofs.+branch+enter+exec+fire+post+repeat.Lts-branch as branch-lts
 use Rattle.commands.proofs.enter.Reads as enter
@@ -20,134 +23,131 @@ use Rattle.commands.proofs.repeat.Reads as repeat
 use Rattle.commands.proofs.+branch+enter+exec+fire+post+repeat.Lts-repeat as repeat-lts
 use Rattle.commands.proofs.+branch+enter+exec+fire+post+repeat.{statement}
 use Rattle.commands.proofs.+branch+enter+exec+fire+post+repeat.Tie.{close}
-use Rattle.commands.proofs.+branch+enter+exec+fire+post+repeat.Proof.Common.{μ-branch, μ-enter, μ-exec, μ-fire, μ-post, μ-repeat, branch-cs, branch-at, enter-cs, enter-at, exec-cs, exec-at, fire-cs, fire-at, post-cs, post-at, repeat-cs, repeat-at, exec-Inv-loop, exec-μ-loop, fire-Inv-loop, fire-μ-loop, repeat-Inv-loop, repeat-μ-loop}
-use Rattle.commands.proofs.+branch+enter+exec+fire+post+repeat.Proof.Branch.{branch-decide-requires, branch-enum-known-next, branch-enum-told, branch-ended-requires, branch-returns, branch-exec-requires, branch-passed-requires, branch-same-length, branch-returns-2}
-use Rattle.commands.proofs.+branch+enter+exec+fire+post+repeat.Proof.Enter.{enter-mul-kind, enter-add-kind, enter-element-copy-out-kind, enter-exec-requires, enter-passed-requires, enter-same-length, enter-returns, enter-cast-cost, enter-mul-cost, enter-element-copy-out-cost, enter-stopped-requires, enter-returns-2, enter-branch-requires, enter-repeat-requires, enter-post-requires, enter-post-requires-2, enter-act-requires, enter-same-length-2, enter-returns-3, enter-same-length-3, enter-returns-4, enter-same-length-4, enter-returns-5, enter-same-length-5, enter-returns-6, enter-same-length-6, enter-returns-7}
-use Rattle.commands.proofs.+branch+enter+exec+fire+post+repeat.Proof.Exec.{exec-loop-holds, exec-head-of-requires, exec-stopped-requires, exec-same-length, exec-returns, exec-enter-requires, exec-enum-told, exec-enum-told-2, exec-passed-requires, exec-same-length-2, exec-returns-2, exec-finished-requires, exec-same-length-3, exec-returns-3, exec-mul-u16-at, exec-add-u16-at, exec-add-u16-at-2, exec-u16-at-requires, exec-loop-less, exec-loop-again}
-use Rattle.commands.proofs.+branch+enter+exec+fire+post+repeat.Proof.Fire.{fire-loop-holds, fire-next-fitting-requires, fire-enum-known-next, fire-enum-told, fire-finished-requires, fire-same-length, fire-returns, fire-variables-requires, fire-add-above, fire-exec-requires, fire-enum-told-2, fire-enum-told-3, fire-passed-requires, fire-same-length-2, fire-returns-2, fire-loop-less, fire-loop-again}
-use Rattle.commands.proofs.+branch+enter+exec+fire+post+repeat.Proof.Post.{post-post-requires, post-enum-known-posted, post-stopped-requires, post-enum-known-posted-2, post-fire-requires, post-returns, post-same-length, post-returns-2}
-use Rattle.commands.proofs.+branch+enter+exec+fire+post+repeat.Proof.Repeat.{repeat-loop-holds, repeat-decide-requires, repeat-enum-known-next, repeat-enum-told, repeat-ended-requires, repeat-same-length, repeat-returns, repeat-exec-requires, repeat-pay-requires, repeat-enum-told-2, repeat-enum-told-3, repeat-passed-requires, repeat-same-length-2, repeat-returns-2, repeat-loop-less, repeat-loop-again}
+use Rattle.commands.proofs.+branch+enter+exec+fire+post+repeat.Proof.Common.{μ-branch, μ-enter, μ-exec, μ-fire, μ-post, μ-repeat, branch-cs, branch-at, enter-cs, enter-at, exec-cs, exec-at, fire-cs, fire-at, post-cs, post-at, repeat-cs, repeat-at}
+use Rattle.commands.proofs.+branch+enter+exec+fire+post+repeat.Proof.Branch as branch-needs
+use Rattle.commands.proofs.+branch+enter+exec+fire+post+repeat.Proof.Enter as enter-needs
+use Rattle.commands.proofs.+branch+enter+exec+fire+post+repeat.Proof.Exec as exec-needs
+use Rattle.commands.proofs.+branch+enter+exec+fire+post+repeat.Proof.Fire as fire-needs
+use Rattle.commands.proofs.+branch+enter+exec+fire+post+repeat.Proof.Post as post-needs
+use Rattle.commands.proofs.+branch+enter+exec+fire+post+repeat.Proof.Repeat as repeat-needs
 
 pub +branch+enter+exec+fire+post+repeat-spec : {M : Type 1} → statement M
 +branch+enter+exec+fire+post+repeat-spec =
     close μ-branch μ-enter μ-exec μ-fire μ-post μ-repeat (λ t. branch-lts.spec (branch-cs t)
     (branch-at t)
     branch.Post
-    (branch-decide-requires t)
-    (branch-enum-known-next t)
-    (branch-enum-told t)
-    (branch-ended-requires t)
-    (branch-returns t)
-    (branch-exec-requires t)
-    (branch-passed-requires t)
-    (branch-same-length t)
-    (branch-returns-2 t))
+    (branch-needs.decide-requires t)
+    (λ c. c .match .keys1)
+    (λ c κs. tt)
+    (branch-needs.returns t)
+    (branch-needs.exec-requires t)
+    (λ c. does-keeps (c .before .before .exec .ensures) .same)
+    (branch-needs.returns-2 t))
     (λ t. enter-lts.spec (enter-cs t)
     (enter-at t)
     enter.Post
-    (enter-mul-kind t)
-    (enter-add-kind t)
-    (enter-element-copy-out-kind t)
-    (enter-exec-requires t)
-    (enter-passed-requires t)
-    (enter-same-length t)
-    (enter-returns t)
-    (enter-cast-cost t)
-    (enter-mul-cost t)
-    (enter-element-copy-out-cost t)
-    (enter-stopped-requires t)
-    (enter-returns-2 t)
-    (enter-branch-requires t)
-    (enter-repeat-requires t)
-    (enter-post-requires t)
-    (enter-post-requires-2 t)
-    (enter-act-requires t)
-    (enter-same-length-2 t)
-    (enter-returns-3 t)
-    (enter-same-length-3 t)
-    (enter-returns-4 t)
-    (enter-same-length-4 t)
-    (enter-returns-5 t)
-    (enter-same-length-5 t)
-    (enter-returns-6 t)
-    (enter-same-length-6 t)
-    (enter-returns-7 t))
+    (λ c. omega (arith, enter-needs.node t (c .before) .short))
+    (λ c. omega (arith, enter-needs.node t (c .before) .short))
+    (enter-needs.exec-requires t)
+    (λ c. does-keeps (c .before .before .exec .ensures) .same)
+    (λ c. c .before .before .exec .ensures)
+    (enter-needs.pay-requires t)
+    (λ c. c .match .keys1)
+    (λ c. c .match .keys2)
+    (enter-needs.returns-2 t)
+    (enter-needs.branch-requires t)
+    (enter-needs.repeat-requires t)
+    (enter-needs.post-requires t)
+    (enter-needs.post-requires-2 t)
+    (enter-needs.act-requires t)
+    (λ c. does-keeps (c .before .before .branch .ensures) .same)
+    (enter-needs.returns-3 t)
+    (λ c. does-keeps (c .before .before .repeat .ensures) .same)
+    (enter-needs.returns-4 t)
+    (λ c. does-keeps (c .before .before .post .ensures) .same)
+    (enter-needs.returns-5 t)
+    (λ c. does-keeps (c .before .before .post2 .ensures) .same)
+    (enter-needs.returns-6 t)
+    (λ c. does-keeps (c .before .before .act .ensures) .same)
+    (enter-needs.returns-7 t))
     (λ t. exec-lts.spec (exec-cs t)
     (exec-at t)
     exec.Post
-    exec-Inv-loop
-    exec-μ-loop
-    (exec-loop-holds t)
-    (exec-head-of-requires t)
-    (exec-stopped-requires t)
-    (exec-same-length t)
-    (exec-returns t)
-    (exec-enter-requires t)
-    (exec-enum-told t)
-    (exec-enum-told-2 t)
-    (exec-passed-requires t)
-    (exec-same-length-2 t)
-    (exec-returns-2 t)
-    (exec-finished-requires t)
-    (exec-same-length-3 t)
-    (exec-returns-3 t)
-    (exec-mul-u16-at t)
-    (exec-add-u16-at t)
-    (exec-add-u16-at-2 t)
-    (exec-u16-at-requires t)
-    (exec-loop-less t)
-    (exec-loop-again t))
+    exec-needs.Inv-loop
+    exec-needs.μ-loop
+    (exec-needs.loop-holds t)
+    (λ c. omega (arith, exec-needs.node t c .short))
+    (λ c. omega (arith, exec-needs.node t c .short))
+    (exec-needs.pay-requires t)
+    (λ c. c .match .keys1)
+    (λ c. c .match .keys2)
+    (λ c. c .before .before .before .before .before .before .loop .inv .rest .keeps .same)
+    (exec-needs.returns t)
+    (λ c. omega (arith, exec-needs.node t (c .before .before .before .before .before .before .before) .short))
+    (λ c κs. omega (arith, exec-needs.node t (c .before .before .before .before .before .before .before) .end))
+    (exec-needs.enter-requires t)
+    (λ c. c .match2 .keys1)
+    (λ c. c .match2 .keys2)
+    (exec-needs.same-length-2 t)
+    (exec-needs.returns-2 t)
+    (exec-needs.same-length-3 t)
+    (exec-needs.returns-3 t)
+    (exec-needs.add-u16-at-2 t)
+    (exec-needs.u16-at-requires-2 t)
+    (exec-needs.loop-less t)
+    (exec-needs.loop-again t))
     (λ t. fire-lts.spec (fire-cs t)
     (fire-at t)
     fire.Post
-    fire-Inv-loop
-    fire-μ-loop
-    (fire-loop-holds t)
-    (fire-next-fitting-requires t)
-    (fire-enum-known-next t)
-    (fire-enum-told t)
-    (fire-finished-requires t)
-    (fire-same-length t)
-    (fire-returns t)
-    (fire-variables-requires t)
-    (fire-add-above t)
-    (fire-exec-requires t)
-    (fire-enum-told-2 t)
-    (fire-enum-told-3 t)
-    (fire-passed-requires t)
-    (fire-same-length-2 t)
-    (fire-returns-2 t)
-    (fire-loop-less t)
-    (fire-loop-again t))
-    (λ t. post-lts.spec (post-cs t)
+    fire-needs.Inv-loop
+    fire-needs.μ-loop
+    (λ c. search needs)
+    (fire-needs.loop-holds t)
+    (fire-needs.next-fitting-requires t)
+    (λ c. c .match .keys1)
+    (λ c. c .match .keys2)
+    (λ c. c .before .before .before .loop .inv .keeps .same)
+    (fire-needs.returns t)
+    (fire-needs.add-from t)
+    (λ c κs. tt)
+    (fire-needs.exec-requires t)
+    (λ c. c .match2 .keys1)
+    (fire-needs.loop-less t)
+    (fire-needs.loop-again t)
+    (λ c. c .match2 .keys2)
+    (fire-needs.same-length-2 t)
+    (fire-needs.returns-2 t))
+    (λ t. post-lts.spec
+    (post-cs t)
     (post-at t)
     post.Post
-    (post-post-requires t)
-    (post-enum-known-posted t)
-    (post-stopped-requires t)
-    (post-enum-known-posted-2 t)
-    (post-fire-requires t)
-    (post-returns t)
-    (post-same-length t)
-    (post-returns-2 t))
+    (post-needs.post-requires t)
+    (λ c. c .match .keys1)
+    (λ c. c .match .keys2)
+    (post-needs.returns t)
+    (post-needs.fire-requires t)
+    (post-needs.same-length t)
+    (post-needs.returns-2 t))
     λ t. repeat-lts.spec (repeat-cs t)
     (repeat-at t)
     repeat.Post
-    repeat-Inv-loop
-    repeat-μ-loop
-    (repeat-loop-holds t)
-    (repeat-decide-requires t)
-    (repeat-enum-known-next t)
-    (repeat-enum-told t)
-    (repeat-ended-requires t)
-    (repeat-same-length t)
-    (repeat-returns t)
-    (repeat-exec-requires t)
-    (repeat-pay-requires t)
-    (repeat-enum-told-2 t)
-    (repeat-enum-told-3 t)
-    (repeat-passed-requires t)
-    (repeat-same-length-2 t)
-    (repeat-returns-2 t)
-    (repeat-loop-less t)
-    (repeat-loop-again t)
+    repeat-needs.Inv-loop
+    repeat-needs.μ-loop
+    (repeat-needs.loop-holds t)
+    (repeat-needs.decide-requires t)
+    (λ c. c .match .keys1)
+    (λ c κs. tt)
+    (λ c. c .before .before .before .before .before .before .before .before .before .loop .inv .keeps .same)
+    (repeat-needs.returns t)
+    (repeat-needs.exec-requires t)
+    (λ c. c .match2 .keys1)
+    (λ c. c .match2 .keys2)
+    (repeat-needs.same-length-2 t)
+    (repeat-needs.returns-2 t)
+    (repeat-needs.pay-requires t)
+    (λ c. c .match3 .keys1)
+    (repeat-needs.loop-less t)
+    (repeat-needs.loop-again t)
+    (λ c. c .match3 .keys2)
+    (repeat-needs.same-length-3 t)
+    (repeat-needs.returns-3 t)

@@ -1,30 +1,37 @@
 -- `encoder::write_cells` meets its contract: the present cells below `place` are written.
-use mathlib.Core.Path.{sym, _∙_}
 use mathlib.Core.Logic.{⊎-elim}
 use Prim.Native.Nat.{_+_, _-_, _≤_, _<_}
 use lib.IntN.{ℤ, pos}
 use lib.ListN.{length, getD}
 use mir.Syntax.{w32}
 use mir.ValLaws.{toZ-ofZ}
+use Rattle.places.specs.Sets.{has}
 use Rattle.book.specs.Records.{cells-format}
 use Rattle.encoder.proofs.Stores.{same-length as stored-length}
 use Rattle.encoder.proofs.Writes.{Writing, writing-none, end-small, writing-absent, writing-present, writing-done}
 use borrow.Author.Needs.{needs}
+use borrow.Author.Tests.{eq-eqb, ne-eqb}
 use native.Mathlib.Omega.{arith}
 use Rattle.encoder.proofs.write_cells.Statement.{statement}
 use Rattle.encoder.proofs.write_cells.Tie as tie
 
 abbrev Inv-loop : tie.InvT-loop
-Inv-loop amounts presence out₀ end₀ place₀ out end place = Writing amounts presence out₀ out end place
+Inv-loop amounts out₀ presence end₀ place₀ out end place = Writing amounts presence out₀ out end place
 
 abbrev μ-loop : tie.MeasureT-loop
-μ-loop amounts presence out₀ end₀ place₀ out end place = 512 - place
+μ-loop amounts out₀ presence end₀ place₀ out end place = 512 - place
 
 loop-holds : tie.Need-loop-holds Inv-loop μ-loop
 loop-holds c = writing-none
 
-contains-requires : tie.Need-contains-requires Inv-loop μ-loop
-contains-requires c κs = search needs
+mul-word : tie.Need-mul-word Inv-loop μ-loop
+mul-word c = search needs
+
+array-read-word : tie.Need-array-read-word Inv-loop μ-loop
+array-read-word c = search needs
+
+shr-if1 : tie.Need-shr-if1 Inv-loop μ-loop
+shr-if1 c = search needs
 
 mul-put-cell : tie.Need-mul-put-cell Inv-loop μ-loop
 mul-put-cell c = search needs
@@ -45,12 +52,12 @@ room c =
 
 put-cell-requires : tie.Need-put-cell-requires Inv-loop μ-loop
 put-cell-requires c κs =
-    let t = c .before .before .before .before in
+    let t = c .before .before .before in
     (omega (arith, room t, stored-length (t .before .loop .inv .written .bytes-are)), left t)
 
 add-end : tie.Need-add-end Inv-loop μ-loop
 add-end c =
-    let t = c .before .before .before .before .before .before .before in
+    let t = c .before .before .before .before .before .before in
     omega (arith, room t)
 
 add-place : tie.Need-add-place Inv-loop μ-loop
@@ -60,18 +67,18 @@ loop-less : tie.Need-loop-less Inv-loop μ-loop
 loop-less c = search needs
 
 loop-again : tie.Need-loop-again Inv-loop μ-loop
-unfolding cells-format
+unfolding cells-format has
 loop-again c =
-    let t = c .before .before in
+    let t = c .before in
     let l = t .before in
     let s = l .before .before in
     let amount : ℤ = getD (s .args .amounts .now) (l .loop .place) (pos 0) in
     ⊎-elim
     (λ w.
     rw (w .6, w .7)
-    (writing-present (l .loop .inv) (left t) (w .3 .last .0) (sym (c .before .contains .ensures) ∙ w .0 .taken) (room t)
+    (writing-present (l .loop .inv) (left t) (w .3 .last .0) (eq-eqb _ 1 (w .0 .taken)) (room t)
     (rw (toZ-ofZ w32 amount (record { sfits = w .2 .given })) at (w .3 .ensures))))
-    (λ w. rw (w .1, w .2) (writing-absent (l .loop .inv) (left t) (sym (c .before .contains .ensures) ∙ w .0 .left)))
+    (λ w. rw (w .1, w .2) (writing-absent (l .loop .inv) (left t) (ne-eqb _ 1 (w .0 .left))))
     (c .if1 .came)
 
 same-length : tie.Need-same-length Inv-loop μ-loop
@@ -91,7 +98,9 @@ write-cells-spec =
     Inv-loop
     μ-loop
     loop-holds
-    contains-requires
+    mul-word
+    array-read-word
+    shr-if1
     mul-put-cell
     shared-slice-copy-out-put-cell
     put-cell-requires

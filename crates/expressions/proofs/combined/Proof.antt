@@ -9,22 +9,10 @@ use Rattle.expressions.proofs.Signed.{wide, sum-fits, difference-fits, 
 use Rattle.expressions.proofs.combined.Statement.{statement}
 use Rattle.expressions.proofs.combined.Tie as tie
 
-cast-result : tie.Need-cast-result
-cast-result c = rw (toZ-ofZ (c .before .fits .a)) (wide (c .before .fits .a))
-
-cast-result-2 : tie.Need-cast-result-2
-cast-result-2 c = rw (toZ-ofZ (c .before .fits .b)) (wide (c .before .fits .b))
-
 add-result : tie.Need-add-result
 add-result c =
     let f = c .before .fits in
     rw (toZ-ofZ (f .a), toZ-ofZ (f .b), toZ-ofZ (wide (f .a)), toZ-ofZ (wide (f .b))) (sum-fits (f .a) (f .b))
-
-cast-result-3 : tie.Need-cast-result-3
-cast-result-3 c = rw (toZ-ofZ (c .before .fits .a)) (wide (c .before .fits .a))
-
-cast-result-4 : tie.Need-cast-result-4
-cast-result-4 c = rw (toZ-ofZ (c .before .fits .b)) (wide (c .before .fits .b))
 
 sub-result : tie.Need-sub-result
 sub-result c =
@@ -79,11 +67,11 @@ pub combined-spec : {M : Type 1} → statement M
 combined-spec =
     tie.close
     (tie.spec
-    cast-result
-    cast-result-2
+    (λ c. rw (toZ-ofZ (c .before .fits .a)) (wide (c .before .fits .a)))
+    (λ c. rw (toZ-ofZ (c .before .fits .b)) (wide (c .before .fits .b)))
     add-result
-    cast-result-3
-    cast-result-4
+    (λ c. rw (toZ-ofZ (c .before .fits .a)) (wide (c .before .fits .a)))
+    (λ c. rw (toZ-ofZ (c .before .fits .b)) (wide (c .before .fits .b)))
     sub-result
     returns
     returns-2

@@ -9,7 +9,7 @@ use Rattle.regions.proofs.Regions.{has-region}
 use Rattle.book.specs.Records.{region-of}
 use Rattle.book.specs.Refusals.{no-region}
 use Rattle.monitor.specs.Rules.{region-places}
-use Rattle.machine.specs.Ready.{script-of}
+use Rattle.machine.specs.Script.{script-of}
 use Rattle.machine.proofs.region_holds.Statement.{statement}
 use Rattle.machine.proofs.region_holds.Tie as tie
 
@@ -23,7 +23,7 @@ returns : tie.Need-returns
 unfolding region-places
 returns c =
     let s = c .before .before in
-    let region = region-of (getD (script-of (s .args .file .now) .regions) (s .args .region) no-region) in
+    let region = region-of (getD (script-of (s .args .code .now) .regions) (s .args .region) no-region) in
     c .holds .ensures
     ∙ ap (λ (r : Region). in-region r (s .args .place)) (c .before .region-of .ensures .0)
     ∙ sym (rw (lt-ltb (s .args .place) 512 (s .pre .2)) at (has-region 8 region (s .args .place)))

@@ -1,146 +1,111 @@
 -- `outputs::out` meets its contract.
 use mathlib.Core.Path.{sym, ap, _∙_}
-use Prim.Native.Nat.{ℕ, _+_, _*_}
 use native.Mathlib.Omega.{arith}
-use lib.IntN.{ℤ}
 use mir.Syntax.{w32}
 use mir.Facts.{toZ-ofZ}
 use borrow.Author.Needs.{needs}
 use borrow.Author.Tests.{not-true, not-false}
+use Rattle.places.specs.Sets.{within}
 use Rattle.book.specs.Bytes.{bits32}
-use Rattle.book.specs.Layout.{decode}
-use Rattle.book.specs.Refusals.{node-at}
-use Rattle.monitor.specs.Labelled.{Lab}
 use Rattle.machine.specs.Store.{vars-of}
-use Rattle.machine.proofs.Nodes.{Read}
-use Rattle.outputs.proofs.Outs.{out-read, user-below, value-node, may-read, out-fails, out-hidden, out-full, out-tells}
-use Rattle.traces.proofs.Records.{said-recorded}
+use Rattle.machine.proofs.Nodes.{node-below}
+use Rattle.outputs.proofs.Outs.{told-value, out-fails, out-hidden, out-full, out-tells}
 use Rattle.outputs.proofs.out.Statement.{statement}
 use Rattle.outputs.proofs.out.Tie as tie
 
--- the node's record in the file
-read : (s : tie.Start) → Read (s .args .file .now) (s .args .nodes + 16 * s .args .n) (node-at (decode (s .args .file .now)) (s .args .n))
-read s = out-read (s .pre .0) (s .pre .1 .0)
-
--- the variables as the rules have them
-abbrev variables : tie.Start → ℕ → Lab ℤ
-variables s = vars-of (s .args .vars .now) (s .args .tags .now)
-
 mul-at : tie.Need-mul-at
-mul-at c =
-    let s = c .before in
-    omega (arith, read s .end, read s .short)
-
-add-at : tie.Need-add-at
-add-at c =
-    let s = c .before in
-    omega (arith, read s .end, read s .short)
+mul-at c = search needs
 
 add-u16-at : tie.Need-add-u16-at
-add-u16-at c =
-    let s = c .before .before in
-    omega (arith, read s .end, read s .short)
+add-u16-at c = search needs
 
 u16-at-requires : tie.Need-u16-at-requires
-u16-at-requires c κs =
-    let s = c .before .before in
-    omega (arith, read s .end)
+u16-at-requires c κs = search needs
 
 eval-requires : tie.Need-eval-requires
 eval-requires c κs =
-    let s = c .before .before .before in
-    (s .pre .0 .ready, value-node (s .pre .0) (s .pre .1 .0) (s .pre .1 .1) (c .u16-at .ensures .0))
+    let child = c .before .before .before in
+    let s = child .before .before .before in
+    (s .pre .0 .runnable, told-value _ _ (s .pre .0 .runnable) (s .pre .1) (child .u16-at .ensures .0))
 
-enum-known-answer : tie.Need-enum-known-answer
-enum-known-answer c = search needs
+enum-known-amount : tie.Need-enum-known-amount
+enum-known-amount c = search needs
 
 enum-told : tie.Need-enum-told
 enum-told c = search needs
 
-failed-requires : tie.Need-failed-requires
-failed-requires c κs = search needs
-
 -- the expression stops
 returns : tie.Need-returns
 returns c =
-    let value = c .before .before .before in
-    let child = value .before in
+    let value = c .before .before in
+    let child = value .before .before .before .before in
     let s = child .before .before .before in
-    out-fails _ _ _ _ _ (variables s) _ _ _ _ _ (s .pre .1 .1) (child .u16-at .ensures .0 ∙ read s .a) (value .eval .ensures) (s .pre .0 .room)
-    _ _ (c .before .enum-told .given .1) (c .failed .ensures)
+    λ who. out-fails _ _ _ who _ _ (s .pre) (child .u16-at .ensures .0) (value .eval .ensures) (c .enum-told .given .1)
 
 add-byte-at : tie.Need-add-byte-at
-add-byte-at c =
-    let s = c .before .before .before .before .before .before .before .before in
-    omega (arith, read s .end, read s .short)
+add-byte-at c = search needs
 
 byte-at-requires : tie.Need-byte-at-requires
-byte-at-requires c κs =
-    let s = c .before .before .before .before .before .before .before .before in
-    omega (arith, read s .end)
+byte-at-requires c κs = search needs
 
-union-requires : tie.Need-union-requires
-union-requires c κs = search needs
+element-copy-out-everyone : tie.Need-element-copy-out-everyone
+element-copy-out-everyone c = search needs
+
+add-union : tie.Need-add-union
+add-union c = search needs
 
 mul-union : tie.Need-mul-union
 mul-union c = search needs
 
 element-copy-out-union : tie.Need-element-copy-out-union
-element-copy-out-union c =
-    let user = c .before .before .before .before in
-    let s = user .before .before .before .before .before .before .before .before .before in
-    user-below (s .pre .0) (s .pre .1 .0) (s .pre .1 .1) (user .byte-at .ensures .0)
+element-copy-out-union c = search needs
 
-union-requires-2 : tie.Need-union-requires-2
-union-requires-2 c κs = search needs
+union-requires : tie.Need-union-requires
+union-requires c κs = search needs
 
 within-requires : tie.Need-within-requires
 within-requires c κs = search needs
 
-stopped-requires : tie.Need-stopped-requires
-stopped-requires c κs = search needs
+stop-requires : tie.Need-stop-requires
+stop-requires c κs = search needs
 
 -- 27: the user may not read the value
 returns-2 : tie.Need-returns-2
 returns-2 c =
-    let test = c .before .before in
-    let bound = test .before in
-    let told = bound .before .before in
-    let user = told .before .before .before .before in
-    let known = user .before .before .before in
-    let value = known .before .before in
-    let child = value .before in
+    let test = c .before .before .before in
+    let user = test .before .before .before .before in
+    let value = user .before .before .before .before .before in
+    let child = value .before .before .before .before in
     let s = child .before .before .before in
-    let fine =
-    may-read (s .pre .0) (s .pre .1 .0) (s .args .ctx .now) (value .eval .result .label) (s .args .read .now)
-    (test .within .ensures) (told .union .ensures) (bound .union2 .ensures) (user .byte-at .ensures .0) in
-    out-hidden _ _ _ _ _ (variables s) _ _ _ _ _ (s .pre .1 .1) (child .u16-at .ensures .0 ∙ read s .a) (value .eval .ensures) (s .pre .0 .room) (known .answer .given .1)
-    (sym fine ∙ not-true _ (c .before .if1 .taken)) (c .stopped .ensures)
+    λ who. out-hidden _ _ _ who _ _ (s .pre) (child .u16-at .ensures .0) (value .eval .ensures) (user .before .before .before .amount .given .1) (user .byte-at .ensures .0)
+    (sym (test .within .ensures ∙ ap (within _) (test .before .union .ensures)) ∙ not-true _ (c .before .before .if1 .taken)) (c .stop .ensures)
+
+element-copy-out-used : tie.Need-element-copy-out-used
+element-copy-out-used c = search needs
+
+cast-used : tie.Need-cast-used
+cast-used c = search needs
 
 add-if2 : tie.Need-add-if2
-add-if2 c =
-    let s = c .before .before .before .before .before .before .before .before .before .before .before .before .before .before .before .before .before in
-    omega (arith, s .pre .0 .short, s .pre .0 .room)
+add-if2 c = search needs
 
-stopped-requires-2 : tie.Need-stopped-requires-2
-stopped-requires-2 c κs = search needs
+stop-requires-2 : tie.Need-stop-requires-2
+stop-requires-2 c κs =
+    let user = c .before .before .before .before .before .before .before .before .before .before in
+    let child = user .before .before .before .before .before .before .before .before .before in
+    let s = child .before .before .before in
+    node-below _ (s .pre .0 .runnable .sound) _ (s .pre .1 .0 .inside)
 
 -- 30: the trace is full
 returns-3 : tie.Need-returns-3
 returns-3 c =
-    let test = c .before .before .before in
-    let bound = test .before in
-    let told = bound .before .before in
-    let user = told .before .before .before .before in
-    let known = user .before .before .before in
-    let value = known .before .before in
-    let child = value .before in
+    let test = c .before .before .before .before .before .before .before in
+    let user = test .before .before .before .before in
+    let value = user .before .before .before .before .before in
+    let child = value .before .before .before .before in
     let s = child .before .before .before in
-    let fine =
-    may-read (s .pre .0) (s .pre .1 .0) (s .args .ctx .now) (value .eval .result .label) (s .args .read .now)
-    (test .within .ensures) (told .union .ensures) (bound .union2 .ensures) (user .byte-at .ensures .0) in
-    out-full _ _ _ _ _ (variables s) _ _ _ _ _ (s .pre .1 .1) (child .u16-at .ensures .0 ∙ read s .a) (value .eval .ensures) (s .pre .0 .room) (known .answer .given .1)
-    (sym fine ∙ not-false _ (c .before .before .if1 .left)) (c .before .if2 .taken) (c .stopped2 .ensures)
+    λ who. out-full _ _ _ who _ _ (s .pre) (child .u16-at .ensures .0) (value .eval .ensures) (user .before .before .before .amount .given .1) (user .byte-at .ensures .0)
+    (sym (test .within .ensures ∙ ap (within _) (test .before .union .ensures)) ∙ not-false _ (c .before .before .before .before .before .before .if1 .left)) (c .before .before .if2 .taken) (c .stop2 .ensures)
 
 sub-put-record : tie.Need-sub-put-record
 sub-put-record c = search needs
@@ -160,13 +125,18 @@ bits-of-requires c κs = search needs
 put-record-requires : tie.Need-put-record-requires
 put-record-requires c κs = search needs
 
-add-finished : tie.Need-add-finished
-add-finished c =
-    let s = c .before .before .before .before .before .before .before .before .before .before .before .before .before .before .before .before .before .before .before .before .before .before .before in
-    omega (arith, s .pre .0 .short, s .pre .0 .room)
+element-copy-out-run : tie.Need-element-copy-out-run
+element-copy-out-run c = search needs
 
-finished-requires : tie.Need-finished-requires
-finished-requires c κs = search needs
+add-run : tie.Need-add-run
+add-run c =
+    let value = c .before .before .before .before .before .before .before .before .before .before .before .before .before .before .before .before .before .before .before .before in
+    let child = value .before .before .before .before in
+    let s = child .before .before .before in
+    omega (arith, s .pre .0 .short, s .pre .0 .room, value .eval .ensures .used-same)
+
+element-write-run : tie.Need-element-write-run
+element-write-run c = search needs
 
 same-length : tie.Need-same-length
 same-length c = search needs
@@ -176,48 +146,40 @@ returns-4 : tie.Need-returns-4
 returns-4 c =
     let put = c .before .before .before in
     let room = put .before .before .before in
-    let test = room .before .before in
-    let bound = test .before in
-    let told = bound .before .before in
-    let user = told .before .before .before .before in
-    let known = user .before .before .before in
-    let value = known .before .before in
-    let child = value .before in
+    let test = room .before .before .before .before .before in
+    let user = test .before .before .before .before in
+    let value = user .before .before .before .before .before in
+    let child = value .before .before .before .before in
     let s = child .before .before .before in
-    let fine =
-    may-read (s .pre .0) (s .pre .1 .0) (s .args .ctx .now) (value .eval .result .label) (s .args .read .now)
-    (test .within .ensures) (told .union .ensures) (bound .union2 .ensures) (user .byte-at .ensures .0) in
-    let z = known .answer .given .0 .0 in
-    let bits = put .before .bits-of .ensures ∙ ap bits32 (toZ-ofZ {w = w32} {z = z} (record { sfits = user .before .before .known-told .given .0 .1 })) in
-    out-tells _ _ _ _ _ (variables s) _ _ _ _ _ (s .pre .1 .1) (child .u16-at .ensures .0 ∙ read s .a) (value .eval .ensures) (s .pre .0 .room) (known .answer .given .1)
-    (sym fine ∙ not-false _ (room .before .if1 .left)) (room .if2 .left)
-    (said-recorded (s .args .trace .now) (s .args .used) (room .if2 .left) z (put .put-record .ensures) (user .byte-at .ensures .0 ∙ read s .p) bits)
-    (c .finished .ensures)
+    λ who. out-tells _ _ _ who (vars-of (s .args .vars .now) (s .args .tags .now)) _ (s .pre) (child .u16-at .ensures .0) (value .eval .ensures) (user .before .before .before .amount .given .1) (user .byte-at .ensures .0)
+    (sym (test .within .ensures ∙ ap (within _) (test .before .union .ensures)) ∙ not-false _ (room .before .before .before .before .if1 .left)) (room .before .before .all2 .given .0) (room .if2 .left) (put .put-record .ensures)
+    (put .before .bits-of .ensures ∙ ap bits32 (toZ-ofZ {w = w32} {z = user .before .before .before .amount .given .0 .0} (record { sfits = user .before .before .known-told .given .0 .1 })))
 
 pub out-spec : {M : Type 1} → statement M
 out-spec =
     tie.close
     (tie.spec
     mul-at
-    add-at
     add-u16-at
     u16-at-requires
     eval-requires
-    enum-known-answer
+    enum-known-amount
     enum-told
-    failed-requires
     returns
     add-byte-at
     byte-at-requires
-    union-requires
+    element-copy-out-everyone
+    add-union
     mul-union
     element-copy-out-union
-    union-requires-2
+    union-requires
     within-requires
-    stopped-requires
+    stop-requires
     returns-2
+    element-copy-out-used
+    cast-used
     add-if2
-    stopped-requires-2
+    stop-requires-2
     returns-3
     sub-put-record
     part-put-record-start
@@ -225,7 +187,8 @@ out-spec =
     cast-put-record
     bits-of-requires
     put-record-requires
-    add-finished
-    finished-requires
+    element-copy-out-run
+    add-run
+    element-write-run
     same-length
     returns-4)

@@ -1,26 +1,68 @@
 -- `postings::post` meets its contract.
-use mathlib.Core.Path.{sym, _∙_}
+use mathlib.Core.Path.{_≡_, sym, _∙_}
+use mathlib.Core.Bool.{true}
+use Prim.Native.Nat.{ℕ, _+_}
 use borrow.Author.Needs.{needs}
-use borrow.Author.Tests.{not-false}
+use borrow.Author.Tests.{not-true, not-false}
 use mir.Facts.{toZ-ofZ}
-use Rattle.monitor.specs.Call.{rows}
-use Rattle.postings.proofs.Postings.{same-key, stops-23, stops-24, stops-26, posts}
+use Rattle.places.specs.Sets.{has, within}
+use Rattle.monitor.specs.Labelled.{under}
+use Rattle.monitor.specs.Rules.{Key, key-place, in-table}
+use Rattle.machine.specs.Store.{row-at, write-row, label-row}
+use Rattle.machine.specs.Writes.{key-of}
+use Rattle.postings.proofs.Postings.{stops-23, stops-24, stops-26, posts}
 use Rattle.postings.proofs.post.Statement.{statement}
 use Rattle.postings.proofs.post.Tie as tie
+
+-- ---- what the tests say
+
+abbrev k : tie.Start → Key
+k s = key-of (s .args .owner) (s .args .line)
+
+abbrev place : tie.Start → ℕ
+place s = key-place (s .args .table) (k s)
+
+key-test : (c : tie.After-is-key) → in-table (k (c .before)) ≡ c .is-key .result
+key-test c = sym (rw (toZ-ofZ (c .before .fits .owner), toZ-ofZ (c .before .fits .line)) at (c .is-key .ensures))
+
+keyed : (c : tie.Else1) → in-table (k (c .before .before)) ≡ true
+keyed c = key-test (c .before) ∙ not-false _ (c .if1 .left)
+
+place-is : (c : tie.After-place-of) → c .place-of .result ≡ place (c .before .before .before)
+place-is c = rw (toZ-ofZ (c .before .before .before .fits .owner), toZ-ofZ (c .before .before .before .fits .line)) at (c .place-of .ensures .0)
+
+right-test : (c : tie.After-contains) → let s = c .before .before .before .before .before in has (row-at (s .args .sets .now) (write-row + s .args .user)) (place s) ≡ c .contains .result
+right-test c = rw (← place-is (c .before .before)) (sym (c .contains .ensures))
+
+allowed : (c : tie.Else2) → let s = c .before .before .before .before .before .before in has (row-at (s .args .sets .now) (write-row + s .args .user)) (place s) ≡ true
+allowed c = right-test (c .before) ∙ not-false _ (c .if2 .left)
+
+-- from test 26 back to 24
+abbrev back : tie.After-within → tie.Else2
+back c = c .before .before .before
+
+label-test : (c : tie.After-within) → let s = back c .before .before .before .before .before .before in within (s .args .ctx .now) (row-at (s .args .sets .now) (label-row + place s)) ≡ c .within .result
+label-test c = rw (← place-is (back c .before .before .before)) (sym (c .within .ensures))
+
+-- ---- the needs
 
 is-key-requires : tie.Need-is-key-requires
 is-key-requires c κs = search needs
 
+stopped-requires : tie.Need-stopped-requires
+stopped-requires c κs = search needs
+
 returns : tie.Need-returns
-returns c =
-    let keyed = c .before in
-    let s = keyed .before in
-    stops-23 (s .args .n) (s .args .ctx .now) (s .args .user) (s .args .table) (s .args .event) (s .args .amount) (s .args .label .now) (s .args .write .now)
-    (s .args .amounts .now) (s .args .presence .now) (s .args .labels .now)
-    (same-key (toZ-ofZ (s .fits .owner)) (toZ-ofZ (s .fits .line))) (keyed .is-key .ensures) (c .if1 .taken)
+returns c own e =
+    let s = c .before .before .before .before in
+    stops-23 (s .args .n) (s .args .ctx .now) (s .args .user) (s .args .table) _ _ _ _ _ (key-test (c .before .before .before) ∙ not-true _ (c .before .before .if1 .taken))
+    (c .stopped .ensures)
 
 place-of-requires : tie.Need-place-of-requires
-place-of-requires c κs = (c .before .before .pre .1, sym (c .before .is-key .ensures) ∙ not-false _ (c .if1 .left))
+place-of-requires c κs = (c .before .before .pre .2, sym (c .before .is-key .ensures) ∙ not-false _ (c .if1 .left))
+
+add-contains : tie.Need-add-contains
+add-contains c = search needs
 
 mul-contains : tie.Need-mul-contains
 mul-contains c = search needs
@@ -31,71 +73,74 @@ element-copy-out-contains c = search needs
 contains-requires : tie.Need-contains-requires
 contains-requires c κs = search needs
 
-returns-2 : tie.Need-returns-2
-unfolding rows
-returns-2 c =
-    let keyed = c .before .before .before .before .before in
-    let s = keyed .before in
-    stops-24 (s .args .n) (s .args .ctx .now) (s .args .user) (s .args .table) (s .args .event) (s .args .amount) (s .args .label .now) (s .args .write .now)
-    (s .args .amounts .now) (s .args .presence .now) (s .args .labels .now)
-    (same-key (toZ-ofZ (s .fits .owner)) (toZ-ofZ (s .fits .line))) (keyed .is-key .ensures) (c .before .before .before .before .if1 .left)
-    (c .before .before .before .place-of .ensures .0) (c .before .contains .ensures) (c .if2 .taken)
+stopped-requires-2 : tie.Need-stopped-requires-2
+stopped-requires-2 c κs = search needs
 
-label-at-requires : tie.Need-label-at-requires
-label-at-requires c κs = search needs
+returns-2 : tie.Need-returns-2
+returns-2 c own e =
+    let tested = c .before .before .before in
+    let placed = tested .before .before in
+    let s = placed .before .before .before in
+    stops-24 (s .args .n) (s .args .ctx .now) (s .args .user) (s .args .table) _ _ _ _ _ (keyed (placed .before)) (s .pre .1)
+    (right-test tested ∙ not-true _ (c .before .before .if2 .taken)) (c .stopped2 .ensures)
+
+add-within : tie.Need-add-within
+add-within c = search needs
+
+mul-within : tie.Need-mul-within
+mul-within c = search needs
+
+element-copy-out-within : tie.Need-element-copy-out-within
+element-copy-out-within c = search needs
 
 within-requires : tie.Need-within-requires
 within-requires c κs = search needs
 
-returns-3 : tie.Need-returns-3
-unfolding rows
-returns-3 c =
-    let allowed = c .before .before .before .before .before .before in
-    let placed = allowed .before .before .before in
-    let keyed = placed .before .before in
-    let s = keyed .before in
-    stops-26 (s .args .n) (s .args .ctx .now) (s .args .user) (s .args .table) (s .args .event) (s .args .amount) (s .args .label .now) (s .args .write .now)
-    (s .args .amounts .now) (s .args .presence .now) (s .args .labels .now)
-    (same-key (toZ-ofZ (s .fits .owner)) (toZ-ofZ (s .fits .line))) (keyed .is-key .ensures) (placed .before .if1 .left)
-    (placed .place-of .ensures .0) (allowed .before .contains .ensures) (allowed .if2 .left)
-    (c .before .before .label-at .ensures) (c .before .within .ensures) (c .if3 .taken)
+stopped-requires-3 : tie.Need-stopped-requires-3
+stopped-requires-3 c κs = search needs
 
-union-requires : tie.Need-union-requires
-union-requires c κs = search needs
+returns-3 : tie.Need-returns-3
+returns-3 c own e =
+    let tested = c .before .before .before in
+    let may = back tested in
+    let s = may .before .before .before .before .before .before in
+    stops-26 (s .args .n) (s .args .ctx .now) (s .args .user) (s .args .table) _ _ _ _ _ (keyed (may .before .before .before .before)) (s .pre .1) (allowed may)
+    (label-test tested ∙ not-true _ (c .before .before .if3 .taken)) (c .stopped3 .ensures)
 
 store-cell-requires : tie.Need-store-cell-requires
 store-cell-requires c κs = search needs
 
 returns-4 : tie.Need-returns-4
-unfolding rows
-returns-4 c =
-    let tested = c .before .before .before .before .before .before .before in
-    let allowed = tested .before .before .before .before .before in
-    let placed = allowed .before .before .before in
-    let keyed = placed .before .before in
-    let s = keyed .before in
-    posts (s .args .n) (s .args .ctx .now) (s .args .user) (s .args .table) (s .args .event) (s .args .amount) (s .args .label .now) (s .args .write .now)
-    (s .args .amounts .now) (s .args .presence .now) (s .args .labels .now)
-    (same-key (toZ-ofZ (s .fits .owner)) (toZ-ofZ (s .fits .line))) (keyed .is-key .ensures) (placed .before .if1 .left)
-    (placed .place-of .ensures .0) (allowed .before .contains .ensures) (allowed .if2 .left)
-    (tested .before .label-at .ensures) (tested .within .ensures)
-    (c .store-cell .last .0) (c .store-cell .last .1 .0) (c .store-cell .last .1 .1 .0) (c .before .before .before .before .before .before .if3 .left)
-    (placed .place-of .ensures .1) (toZ-ofZ (s .fits .amount)) (c .before .before .before .before .union .ensures) (c .store-cell .ensures)
+unfolding under
+returns-4 c own e =
+    let passed = c .before .before .before .before in
+    let may = back (passed .before) in
+    let placed = may .before .before .before in
+    let s = placed .before .before .before in
+    let stored = c .store-cell .ensures in
+    posts (s .args .n) (s .args .ctx .now) (s .args .user) (s .args .table) _ _ _ _ _ (keyed (placed .before)) (s .pre .1) (allowed may)
+    (label-test (passed .before) ∙ not-false _ (passed .if3 .left)) (place-is placed) (placed .place-of .ensures .1)
+    (rw (← place-is placed, ← e) (rw (toZ-ofZ (s .fits .amount)) at (stored .0))) (stored .1 .0) (stored .1 .1)
 
 pub post-spec : {M : Type 1} → statement M
 post-spec =
     tie.close
     (tie.spec
     is-key-requires
+    stopped-requires
     returns
     place-of-requires
+    add-contains
     mul-contains
     element-copy-out-contains
     contains-requires
+    stopped-requires-2
     returns-2
-    label-at-requires
+    add-within
+    mul-within
+    element-copy-out-within
     within-requires
+    stopped-requires-3
     returns-3
-    union-requires
     store-cell-requires
     returns-4)

@@ -8,27 +8,26 @@ use borrow.Author.Needs.{needs}
 use mir.Syntax.{w32, w64}
 use mir.Val.{toZ, ofZ}
 use mir.Facts.{toZ-ofZ}
-use Rattle.places.specs.Sets.{union}
-use Rattle.monitor.specs.Call.{cells-of}
+use Rattle.machine.specs.Store.{cells-held}
 use Rattle.queries.specs.Tallies.{with-amount, first-above}
 use Rattle.queries.proofs.Sweeps.{AtOwner, AtLine, to-first-owner, to-first-line, to-next-owner, found, bit-lt, meet-absent, meet-present}
 use Rattle.queries.proofs.query.Statement.{statement}
 use Rattle.queries.proofs.query.Tie as tie
 
 abbrev Inv-loop2 : tie.InvT-loop2
-Inv-loop2 kind table first last low high amounts presence labels end-owner start-line end-line present tally₀ label₀ owner line₀ tally label line =
-    AtLine kind (cells-of amounts presence labels) (toZ w32 first) (toZ w32 last) (toZ w32 low) (toZ w32 high) table owner line (toZ w64 tally) label
+Inv-loop2 kind table first last low high cells sets end-owner start-line end-line present tally₀ label₀ owner line₀ tally label line =
+    AtLine kind (cells-held cells sets) (toZ w32 first) (toZ w32 last) (toZ w32 low) (toZ w32 high) table owner line (toZ w64 tally) label
 
 abbrev μ-loop2 : tie.MeasureT-loop2
-μ-loop2 kind table first last low high amounts presence labels end-owner start-line end-line present tally₀ label₀ owner line₀ tally label line =
+μ-loop2 kind table first last low high cells sets end-owner start-line end-line present tally₀ label₀ owner line₀ tally label line =
     end-line - line
 
 abbrev Inv-loop : tie.InvT-loop
-Inv-loop kind table first last low high amounts presence labels end-owner start-line end-line present tally₀ label₀ owner₀ tally label owner =
-    AtOwner kind (cells-of amounts presence labels) (toZ w32 first) (toZ w32 last) (toZ w32 low) (toZ w32 high) table owner (toZ w64 tally) label
+Inv-loop kind table first last low high cells sets end-owner start-line end-line present tally₀ label₀ owner₀ tally label owner =
+    AtOwner kind (cells-held cells sets) (toZ w32 first) (toZ w32 last) (toZ w32 low) (toZ w32 high) table owner (toZ w64 tally) label
 
 abbrev μ-loop : tie.MeasureT-loop
-μ-loop kind table first last low high amounts presence labels end-owner start-line end-line present tally₀ label₀ owner₀ tally label owner =
+μ-loop kind table first last low high cells sets end-owner start-line end-line present tally₀ label₀ owner₀ tally label owner =
     end-owner - owner
 
 -- a line of the box
@@ -39,27 +38,6 @@ line-to c = omega arith
 -- a bit of the table's word
 bit-below : (c : tie.In-loop2 Inv-loop2 μ-loop2 Inv-loop μ-loop) → 8 * c .before .before .before .loop .owner + c .before .loop2 .line < 64
 bit-below c = bit-lt (c .before .loop2 .inv) (line-to c)
-
-first-above-requires : tie.Need-first-above-requires Inv-loop2 μ-loop2 Inv-loop μ-loop
-first-above-requires c κs = search needs
-
-first-from-requires : tie.Need-first-from-requires Inv-loop2 μ-loop2 Inv-loop μ-loop
-first-from-requires c κs = search needs
-
-first-above-requires-2 : tie.Need-first-above-requires-2 Inv-loop2 μ-loop2 Inv-loop μ-loop
-first-above-requires-2 c κs = search needs
-
-mul-present : tie.Need-mul-present Inv-loop2 μ-loop2 Inv-loop μ-loop
-mul-present c = search needs
-
-element-copy-out-present : tie.Need-element-copy-out-present Inv-loop2 μ-loop2 Inv-loop μ-loop
-element-copy-out-present c = search needs
-
-start-requires : tie.Need-start-requires Inv-loop2 μ-loop2 Inv-loop μ-loop
-start-requires c κs = search needs
-
-first-from-requires-2 : tie.Need-first-from-requires-2 Inv-loop2 μ-loop2 Inv-loop μ-loop
-first-from-requires-2 c κs = search needs
 
 loop-holds : tie.Need-loop-holds Inv-loop2 μ-loop2 Inv-loop μ-loop
 loop-holds c =
@@ -72,72 +50,39 @@ loop2-holds c =
     let owner-to : c .before .loop .owner < first-above (toZ w32 (ofZ w32 (s .args .last))) = omega arith in
     to-first-line _ _ _ _ _ _ _ owner-to (c .before .before .before .before .before .before .first-from .ensures) (c .before .loop .inv)
 
-mul-bit : tie.Need-mul-bit Inv-loop2 μ-loop2 Inv-loop μ-loop
-mul-bit c = search needs
-
-add-bit : tie.Need-add-bit Inv-loop2 μ-loop2 Inv-loop μ-loop
-add-bit c = search needs
-
-mul-place : tie.Need-mul-place Inv-loop2 μ-loop2 Inv-loop μ-loop
-mul-place c = search needs
-
-add-place : tie.Need-add-place Inv-loop2 μ-loop2 Inv-loop μ-loop
-add-place c = search needs
-
-label-at-requires : tie.Need-label-at-requires Inv-loop2 μ-loop2 Inv-loop μ-loop
-label-at-requires c κs = omega (arith, bit-below (c .before), c .label-at-arg .given .0)
-
-union-requires : tie.Need-union-requires Inv-loop2 μ-loop2 Inv-loop μ-loop
-union-requires c κs = search needs
+element-copy-out-union : tie.Need-element-copy-out-union Inv-loop2 μ-loop2 Inv-loop μ-loop
+element-copy-out-union c = omega (arith, bit-below c)
 
 shr-if1 : tie.Need-shr-if1 Inv-loop2 μ-loop2 Inv-loop μ-loop
-shr-if1 c = bit-below (c .before .before .before)
-
-mul-counted : tie.Need-mul-counted Inv-loop2 μ-loop2 Inv-loop μ-loop
-mul-counted c = search needs
+shr-if1 c = bit-below (c .before .before)
 
 element-copy-out-counted :
     tie.Need-element-copy-out-counted Inv-loop2 μ-loop2 Inv-loop μ-loop
-element-copy-out-counted c = omega (arith, bit-below (c .before .before .before .before))
+element-copy-out-counted c = omega (arith, bit-below (c .before .before .before))
 
 counted-requires : tie.Need-counted-requires Inv-loop2 μ-loop2 Inv-loop μ-loop
 counted-requires c κs =
-    let k = c .before .before .before .before .before in
+    let k = c .before .before .before .before in
     omega (arith, bit-below k, k .before .loop2 .inv .swept .small)
-
-add-line : tie.Need-add-line Inv-loop2 μ-loop2 Inv-loop μ-loop
-add-line c = search needs
-
-loop2-less : tie.Need-loop2-less Inv-loop2 μ-loop2 Inv-loop μ-loop
-loop2-less c = search needs
 
 loop2-again : tie.Need-loop2-again Inv-loop2 μ-loop2 Inv-loop μ-loop
 loop2-again c =
-    let k = c .before .before .before .before in
+    let k = c .before .before .before in
     let a = k .before .before .before .before .before .before .before .before .before .before .args in
-    let joined = c .before .union .ensures ∙ ap (union (k .before .loop2 .label)) (c .before .before .label-at .ensures) in
+    let joined = c .before .union .ensures in
     ⊎-elim
     (λ w.
     let kept = ap (toZ w64) (w .3) ∙ toZ-ofZ {w = w64} (record { sfits = w .2 .ok }) in
     let more = kept ∙ w .2 .ensures ∙ ap (with-amount (a .kind) (toZ w64 (k .before .loop2 .tally))) (toZ-ofZ (record { sfits = w .1 .given })) in
-    meet-present (a .amounts .now) (a .presence .now) (a .labels .now) (a .table) (k .before .loop2 .inv) (line-to k) joined (w .0 .taken) (w .1 .given) more)
-    (λ w. rw (w .1) (meet-absent (a .amounts .now) (a .presence .now) (a .labels .now) (a .table) (k .before .loop2 .inv) (line-to k) joined (w .0 .left)))
+    meet-present (a .cells .now) (a .sets .now) (a .table) (k .before .loop2 .inv) (line-to k) joined (w .0 .taken) (w .1 .given) more)
+    (λ w. rw (w .1) (meet-absent (a .cells .now) (a .sets .now) (a .table) (k .before .loop2 .inv) (line-to k) joined (w .0 .left)))
     (c .if1 .came)
-
-add-owner : tie.Need-add-owner Inv-loop2 μ-loop2 Inv-loop μ-loop
-add-owner c = search needs
-
-loop-less : tie.Need-loop-less Inv-loop2 μ-loop2 Inv-loop μ-loop
-loop-less c = search needs
 
 loop-again : tie.Need-loop-again Inv-loop2 μ-loop2 Inv-loop μ-loop
 loop-again c =
     let s = c .before .before .before .before .before .before .before .before .before .before in
     let past : first-above (toZ w32 (ofZ w32 (s .args .high))) ≤ c .before .loop2 .line = omega arith in
     to-next-owner _ _ _ _ _ _ _ past (c .before .loop2 .inv)
-
-valued-requires : tie.Need-valued-requires Inv-loop2 μ-loop2 Inv-loop μ-loop
-valued-requires c κs = search needs
 
 returns : tie.Need-returns Inv-loop2 μ-loop2 Inv-loop μ-loop
 returns c =
@@ -156,30 +101,33 @@ query-spec =
     μ-loop2
     Inv-loop
     μ-loop
-    first-above-requires
-    first-from-requires
-    first-above-requires-2
-    mul-present
-    element-copy-out-present
-    start-requires
-    first-from-requires-2
+    (λ c κs. search needs)
+    (λ c κs. search needs)
+    (λ c κs. search needs)
+    (λ c. search needs)
+    (λ c. search needs)
+    (λ c. search needs)
+    (λ c κs. search needs)
+    (λ c κs. search needs)
     loop-holds
     loop2-holds
-    mul-bit
-    add-bit
-    mul-place
-    add-place
-    label-at-requires
-    union-requires
+    (λ c. search needs)
+    (λ c. search needs)
+    (λ c. search needs)
+    (λ c. search needs)
+    (λ c. search needs)
+    (λ c. search needs)
+    element-copy-out-union
+    (λ c κs. search needs)
     shr-if1
-    mul-counted
+    (λ c. search needs)
     element-copy-out-counted
     counted-requires
-    add-line
-    loop2-less
+    (λ c. search needs)
+    (λ c. search needs)
     loop2-again
-    add-owner
-    loop-less
+    (λ c. search needs)
+    (λ c. search needs)
     loop-again
-    valued-requires
+    (λ c κs. search needs)
     returns)

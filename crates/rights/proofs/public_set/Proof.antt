@@ -3,7 +3,7 @@ use Rattle.rights.proofs.public_set.Statement.{statement}
 use Rattle.rights.proofs.public_set.Tie as tie
 
 right-set-requires : tie.Need-right-set-requires
-right-set-requires c κs = c .before .pre
+right-set-requires c κs = c .pre
 
 returns : tie.Need-returns
 returns c = c .right-set .ensures

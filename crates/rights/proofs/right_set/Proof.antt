@@ -1,137 +1,115 @@
 -- `rights::right_set` meets its contract: the records from `right` on are gathered.
-use mathlib.Core.List.{List}
-use Prim.Native.Nat.{ℕ, _+_, _*_, _-_, _≤_, _<_}
-use lib.Dec.{lit<}
-use lib.ListN.{length}
-use Rattle.book.specs.Bytes.{byte}
-use Rattle.book.proofs.Accepted.{placed}
-use Rattle.rights.proofs.Rights.{Gathering, gathering-none, region-fits-in, table-fits-in, gathered-kind, gathered-user, gathered-more, gathered}
-use borrow.Author.Needs.{needs}
+use mathlib.Core.Path.{sym, _∙_}
+use Prim.Native.Nat.{_+_, _*_, _-_, _≤_, _<_}
 use native.Mathlib.Omega.{arith}
+use borrow.Author.Needs.{needs}
+use Rattle.machine.specs.Script.{rights-start, script-of}
+use Rattle.rights.proofs.Rights.{Gathering, gathering-none, right-end, region-exists, gathered-kind, gathered-user, gathered-more, gathered}
 use Rattle.rights.proofs.right_set.Statement.{statement}
 use Rattle.rights.proofs.right_set.Tie as tie
 
 abbrev Inv-loop : tie.InvT-loop
-Inv-loop file kind user first start set₀ right₀ set right = Gathering file kind user first start set right
+Inv-loop code kind user set₀ right₀ set right = Gathering (script-of code) kind user set right
 
 abbrev μ-loop : tie.MeasureT-loop
-μ-loop file kind user first start set₀ right₀ set right = right
+μ-loop code kind user set₀ right₀ set right = right
 
-section-at-requires : tie.Need-section-at-requires Inv-loop μ-loop
-section-at-requires c κs =
-    let s = c .before in
-    let z = placed (s .args .file .now) (s .pre) in
-    (lit< tt, z .long, z .back 1 (lit< tt))
-
-section-at-requires-2 : tie.Need-section-at-requires-2 Inv-loop μ-loop
-section-at-requires-2 c κs =
-    let s = c .before .before in
-    let z = placed (s .args .file .now) (s .pre) in
-    (lit< tt, z .long, z .back 2 (lit< tt))
+u16-at-requires : tie.Need-u16-at-requires Inv-loop μ-loop
+u16-at-requires c κs = omega (arith, c .before .pre .long)
 
 loop-holds : tie.Need-loop-holds Inv-loop μ-loop
 loop-holds c =
-    let s = c .before .before .before in
-    gathering-none (s .args .file .now) (s .pre) (s .args .kind) (s .args .user) (c .before .section-at .ensures) (c .section-at2 .ensures)
+    let s = c .before .before in
+    gathering-none (s .args .code .now) (s .pre) (s .args .kind) (s .args .user) (c .u16-at .ensures .0)
 
 sub-right : tie.Need-sub-right Inv-loop μ-loop
 sub-right c = search needs
-
-mul-at : tie.Need-mul-at Inv-loop μ-loop
-mul-at c = search needs
-
-add-at : tie.Need-add-at Inv-loop μ-loop
-add-at c = search needs
-
-shared-slice-read-if1 : tie.Need-shared-slice-read-if1 Inv-loop μ-loop
-shared-slice-read-if1 c = search needs
-
-add-if2 : tie.Need-add-if2 Inv-loop μ-loop
-add-if2 c = search needs
-
-shared-slice-read-if2 : tie.Need-shared-slice-read-if2 Inv-loop μ-loop
-shared-slice-read-if2 c = search needs
-
-cast-if2 : tie.Need-cast-if2 Inv-loop μ-loop
-cast-if2 c =
-    let l = c .before .before .before .before in
-    omega (arith, c .shared-slice-known3 .given (l .before .section-at2 .result .start + (l .loop .right - 1) * 4 + 1))
-
-add-region-at : tie.Need-add-region-at Inv-loop μ-loop
-add-region-at c = search needs
-
-shared-slice-read-region-at : tie.Need-shared-slice-read-region-at Inv-loop μ-loop
-shared-slice-read-region-at c = search needs
 
 -- a record is left
 left : (c : tie.In-loop Inv-loop μ-loop) → 0 < c .before .loop .right
 left c = omega (arith, c .loop-test .taken)
 
--- the region's record lies in the file
-inside : (c : tie.After-shared-slice-known4 Inv-loop μ-loop)
-    → let l = c .before .before .before .before .before .before in
-    let file : List ℕ = l .before .before .before .before .args .file .now in
-    l .before .before .section-at .result .start + byte file (l .before .section-at2 .result .start + (l .loop .right - 1) * 4 + 2) * 8 + 8 ≤ length file
-inside c =
-    let l = c .before .before .before .before .before .before in
-    let s = l .before .before .before .before in
-    region-fits-in (s .args .file .now) (s .pre) (s .args .kind) (s .args .user) (l .loop .inv) (left (c .before .before .before .before .before))
+-- and stands in the script
+ends : (c : tie.In-loop Inv-loop μ-loop) → rights-start + 4 * (c .before .loop .right - 1) + 4 ≤ 17260
+ends c =
+    let l = c .before in
+    let s = l .before .before .before in
+    right-end (s .args .code .now) (s .pre) (s .args .kind) (s .args .user) (l .loop .inv) (left c)
 
-cast-region-at : tie.Need-cast-region-at Inv-loop μ-loop
-cast-region-at c = omega (arith, inside c)
+mul-at : tie.Need-mul-at Inv-loop μ-loop
+mul-at c = omega (arith, ends c)
 
-mul-region-at : tie.Need-mul-region-at Inv-loop μ-loop
-mul-region-at c = omega (arith, inside c)
+add-at : tie.Need-add-at Inv-loop μ-loop
+add-at c = omega (arith, ends c)
 
-add-region-at-2 : tie.Need-add-region-at-2 Inv-loop μ-loop
-add-region-at-2 c = omega (arith, inside c)
+element-copy-out-if1 : tie.Need-element-copy-out-if1 Inv-loop μ-loop
+element-copy-out-if1 c = omega (arith, ends c)
 
-region-at-requires : tie.Need-region-at-requires Inv-loop μ-loop
-region-at-requires c κs = inside c
+add-byte-at : tie.Need-add-byte-at Inv-loop μ-loop
+add-byte-at c = omega (arith, ends (c .before .before .before))
 
-region-set-requires : tie.Need-region-set-requires Inv-loop μ-loop
-region-set-requires c κs =
-    let l = c .before .before .before .before .before .before .before in
-    let s = l .before .before .before .before in
-    rw (c .region-at .ensures) (table-fits-in (s .args .file .now) (s .pre) (s .args .kind) (s .args .user) (l .loop .inv) (left (c .before .before .before .before .before .before)))
+byte-at-requires : tie.Need-byte-at-requires Inv-loop μ-loop
+byte-at-requires c κs =
+    let t = c .before .before .before in
+    omega (arith, ends t, t .before .before .before .before .pre .long)
+
+add-byte-at-2 : tie.Need-add-byte-at-2 Inv-loop μ-loop
+add-byte-at-2 c = omega (arith, ends (c .before .before .before .before .before .before))
+
+byte-at-requires-2 : tie.Need-byte-at-requires-2 Inv-loop μ-loop
+byte-at-requires-2 c κs =
+    let t = c .before .before .before .before .before .before in
+    omega (arith, ends t, t .before .before .before .before .pre .long)
+
+region-places-requires : tie.Need-region-places-requires Inv-loop μ-loop
+region-places-requires c κs =
+    let t = c .before .before .before .before .before .before .before in
+    let l = t .before in
+    let s = l .before .before .before in
+    (s .pre, rw (c .byte-at2 .ensures .0) (region-exists (s .args .code .now) (s .pre) (s .args .kind) (s .args .user) (l .loop .inv) (left t)))
 
 union-requires : tie.Need-union-requires Inv-loop μ-loop
-union-requires c κs = tt
+union-requires c κs = search needs
 
 loop-less : tie.Need-loop-less Inv-loop μ-loop
 loop-less c = search needs
 
 loop-again : tie.Need-loop-again Inv-loop μ-loop
 loop-again c =
-    let l = c .before .before .before .before .before .before .before .before .before in
-    let s = l .before .before .before .before in
-    gathered-more (s .args .file .now) (s .pre) (s .args .kind) (s .args .user) (l .loop .inv) (left (c .before .before .before .before .before .before .before .before))
-    (c .before .before .before .before .before .before .if1 .taken)
-    (c .before .before .before .before .if2 .taken)
-    _ _ _ (c .before .before .region-at .ensures) (c .before .region-set .ensures) (c .union .ensures)
+    let named = c .before .before .before .before .before in
+    let t = named .before .before .before .before in
+    let l = t .before in
+    let s = l .before .before .before in
+    gathered-more (s .args .code .now) (s .pre) (s .args .kind) (s .args .user) (l .loop .inv) (left t)
+    (named .before .before .if1 .taken) (sym (named .byte-at .ensures .0) ∙ c .before .before .before .before .if2 .taken)
+    _ _ _ (c .before .before .byte-at2 .ensures .0) (c .before .region-places .ensures) (c .union .ensures)
 
 loop-less-2 : tie.Need-loop-less-2 Inv-loop μ-loop
 loop-less-2 c = search needs
 
 loop-again-2 : tie.Need-loop-again-2 Inv-loop μ-loop
 loop-again-2 c =
-    let l = c .before .before .before .before .before in
-    let s = l .before .before .before .before in
-    gathered-user (s .args .file .now) (s .pre) (s .args .kind) (s .args .user) (l .loop .inv) (left (c .before .before .before .before)) (c .before .before .if1 .taken) (c .if2 .left)
+    let named = c .before in
+    let t = named .before .before .before .before in
+    let l = t .before in
+    let s = l .before .before .before in
+    gathered-user (s .args .code .now) (s .pre) (s .args .kind) (s .args .user) (l .loop .inv) (left t)
+    (named .before .before .if1 .taken) (λ e. c .if2 .left (named .byte-at .ensures .0 ∙ e))
 
 loop-less-3 : tie.Need-loop-less-3 Inv-loop μ-loop
 loop-less-3 c = search needs
 
 loop-again-3 : tie.Need-loop-again-3 Inv-loop μ-loop
 loop-again-3 c =
-    let l = c .before .before .before in
-    let s = l .before .before .before .before in
-    gathered-kind (s .args .file .now) (s .pre) (s .args .kind) (s .args .user) (l .loop .inv) (left (c .before .before)) (c .if1 .left)
+    let t = c .before .before in
+    let l = t .before in
+    let s = l .before .before .before in
+    gathered-kind (s .args .code .now) (s .pre) (s .args .kind) (s .args .user) (l .loop .inv) (left t) (c .if1 .left)
 
 returns : tie.Need-returns Inv-loop μ-loop
 returns c =
-    let s = c .before .before .before .before .before in
-    gathered (s .args .file .now) (s .pre) (s .args .kind) (s .args .user) (c .before .loop .inv) (omega arith)
+    let s = c .before .before .before .before in
+    gathered (s .args .code .now) (s .pre) (s .args .kind) (s .args .user) (c .before .loop .inv) (omega arith)
 
 pub right-set-spec : {M : Type 1} → statement M
 right-set-spec =
@@ -139,23 +117,17 @@ right-set-spec =
     (tie.spec
     Inv-loop
     μ-loop
-    section-at-requires
-    section-at-requires-2
+    u16-at-requires
     loop-holds
     sub-right
     mul-at
     add-at
-    shared-slice-read-if1
-    add-if2
-    shared-slice-read-if2
-    cast-if2
-    add-region-at
-    shared-slice-read-region-at
-    cast-region-at
-    mul-region-at
-    add-region-at-2
-    region-at-requires
-    region-set-requires
+    element-copy-out-if1
+    add-byte-at
+    byte-at-requires
+    add-byte-at-2
+    byte-at-requires-2
+    region-places-requires
     union-requires
     loop-less
     loop-again

@@ -1,13 +1,13 @@
--- `runner::run` meets its contract: refused by the budget, by lent memory or by loading, or the run of the loaded book.
-use mathlib.Core.Path.{_≡_, refl, sym, _∙_}
+-- `runner::run` meets its contract: refused by the budget, by lent memory or by the file, or the run of its book.
+use mathlib.Core.Path.{_≡_, sym, _∙_}
 use mathlib.Core.Bool.{true}
 use Prim.Native.Nat.{_≤_}
 use native.Mathlib.Omega.{arith}
 use lib.ListN.{length}
-use borrow.Author.Needs.{needs}
 use borrow.Author.Tests.{not-true, not-false}
 use Rattle.loader.specs.Load.{lent-fits}
-use Rattle.runner.proofs.Calls.{budget-over, trace-over, lengths-other, load-refuses, load-starts, load-runs, lengths-are}
+use Rattle.runner.proofs.Calls.{budget-over, trace-over, lengths-other, lengths-are, file-refuses, file-runs}
+use borrow.Author.Needs.{needs}
 use Rattle.runner.proofs.run.Statement.{statement}
 use Rattle.runner.proofs.run.Tie as tie
 
@@ -38,17 +38,8 @@ returns-3 c =
     let a = c .before .before .before .before .before .before .before .before .before .before .before .args in
     lengths-other (a .file .now) (a .budget) (a .amounts .now) (a .presence .now) (a .labels .now) (a .trace .now) (sym (c .before .lengths-fit .ensures) ∙ not-true _ (c .if3 .taken))
 
-slice-aggregate-load : tie.Need-slice-aggregate-load
-slice-aggregate-load c = refl
-
-slice-aggregate-load-2 : tie.Need-slice-aggregate-load-2
-slice-aggregate-load-2 c = refl
-
-slice-aggregate-load-3 : tie.Need-slice-aggregate-load-3
-slice-aggregate-load-3 c = refl
-
-load-requires : tie.Need-load-requires
-load-requires c κs = search needs
+inspect-requires : tie.Need-inspect-requires
+inspect-requires c κs = search needs
 
 enum-known-number : tie.Need-enum-known-number
 enum-known-number c = search needs
@@ -66,14 +57,11 @@ within c =
 
 started-requires : tie.Need-started-requires
 started-requires c κs =
-    let told = c .before .before .before .before .before .before .before in
-    let load = told .before .before .before .before .before in
-    let test = load .before .before .before .before in
+    let told = c .before .before .before .before in
+    let test = told .before .before .before in
     let a = test .before .before .before .before .before .before .before .before .before .before .before .args in
-    let w = within test in (
-      load-starts (a .file .now) (a .budget) (a .amounts .now) (a .presence .now) (a .labels .now) (a .trace .now) (w .0) (w .1) (w .2) _ _ _ refl _ _ _ _ (load .load .ensures) (told .enum-told .given .1),
-      lengths-are (a .file .now) (a .budget) (a .amounts .now) (a .presence .now) (a .labels .now) (a .trace .now) (w .0) (w .1) (w .2) _ _ _ refl _ _ _ _ (load .load .ensures),
-    )
+    let w = within test in
+    (sym (told .before .before .inspect .ensures) ∙ told .enum-told .given .1, lengths-are (a .file .now) (a .budget) (a .amounts .now) (a .presence .now) (a .labels .now) (a .trace .now) (w .2), w .1)
 
 same-length-4 : tie.Need-same-length-4
 same-length-4 c = search needs
@@ -86,33 +74,33 @@ same-length-6 c = search needs
 
 returns-4 : tie.Need-returns-4
 returns-4 c =
-    let load = c .before .before .before .before .before .before in
-    let test = load .before .before .before .before in
+    let file = c .before .before .before in
+    let test = file .before in
     let a = test .before .before .before .before .before .before .before .before .before .before .before .args in
     let w = within test in
-    load-refuses (a .file .now) (a .budget) (a .amounts .now) (a .presence .now) (a .labels .now) (a .trace .now) (w .0) (w .1) (w .2) _ _ _ refl _ _ _ _ (load .load .ensures) _ _ (c .before .number .given .1)
+    file-refuses (a .file .now) (a .budget) (a .amounts .now) (a .presence .now) (a .labels .now) (a .trace .now) (w .0) (w .1) (w .2) _ _ (sym (file .inspect .ensures) ∙ c .before .number .given .1)
 
 same-length-7 : tie.Need-same-length-7
-same-length-7 c = c .before .before .before .before .before .before .before .started .kept .1 .1 .1 .1 .1 .0
+same-length-7 c = search needs
 
 same-length-8 : tie.Need-same-length-8
-same-length-8 c = c .before .before .before .before .before .before .before .started .kept .1 .1 .1 .1 .1 .1 .0
+same-length-8 c = search needs
 
 same-length-9 : tie.Need-same-length-9
-same-length-9 c = c .before .before .before .before .before .before .before .started .kept .1 .1 .1 .1 .1 .1 .1 .0
+same-length-9 c = search needs
 
 same-length-10 : tie.Need-same-length-10
-same-length-10 c = c .before .before .before .before .before .before .before .started .kept .1 .1 .1 .1 .1 .1 .1 .1 .0
+same-length-10 c = search needs
 
 returns-5 : tie.Need-returns-5
 returns-5 c =
     let ran = c .before .before .before .before .before .before .before in
-    let told = ran .before .before .before .before .before .before .before .before in
-    let load = told .before .before .before .before .before in
-    let test = load .before .before .before .before in
+    let told = ran .before .before .before .before .before in
+    let test = told .before .before .before in
     let a = test .before .before .before .before .before .before .before .before .before .before .before .args in
     let w = within test in
-    load-runs (a .file .now) (a .budget) (a .amounts .now) (a .presence .now) (a .labels .now) (a .trace .now) (w .0) (w .1) (w .2) _ _ _ refl _ _ _ _ (load .load .ensures) (told .enum-told .given .1) (ran .started .ensures)
+    ran .started .ensures
+    ∙ file-runs (a .file .now) (a .budget) (a .amounts .now) (a .presence .now) (a .labels .now) (a .trace .now) (w .0) (w .1) (w .2) (sym (told .before .before .inspect .ensures) ∙ told .enum-told .given .1)
 
 pub run-spec : {M : Type 1} → statement M
 run-spec =
@@ -125,10 +113,7 @@ run-spec =
     same-length-2
     same-length-3
     returns-3
-    slice-aggregate-load
-    slice-aggregate-load-2
-    slice-aggregate-load-3
-    load-requires
+    inspect-requires
     enum-known-number
     enum-told
     started-requires

@@ -1,52 +1,70 @@
 -- `runner::started` meets its contract: the programs run on the arrays, and the answer is that of their end.
-use mathlib.Core.Path.{ap, _∙_}
-use Rattle.places.specs.Sets.{Words}
-use Rattle.monitor.specs.declared.Answer.{Answer}
-use Rattle.entry.specs.Entry.{lent, result}
-use Rattle.runner.proofs.Results.{end-sizes, stored-gives}
+use lib.IntN.{pos}
+use Rattle.monitor.specs.Labelled.{lit}
+use Rattle.monitor.specs.Run.{sixteen}
+use Rattle.runner.proofs.Results.{lent-all, run-gives}
+use borrow.Author.Needs.{needs}
 use Rattle.runner.proofs.started.Statement.{statement}
 use Rattle.runner.proofs.started.Tie as tie
 
-run-programs-requires : tie.Need-run-programs-requires
-run-programs-requires c κs = c .before .before .before .before .before .before .before .before .pre .0
+slice-aggregate-load-cells : tie.Need-slice-aggregate-load-cells
+slice-aggregate-load-cells c = search needs
+
+load-cells-requires : tie.Need-load-cells-requires
+load-cells-requires c κs = search needs
+
+copy-script-requires : tie.Need-copy-script-requires
+copy-script-requires c κs = search needs
+
+start-sets-requires : tie.Need-start-sets-requires
+start-sets-requires c κs = search needs
+
+programs-requires : tie.Need-programs-requires
+programs-requires c κs =
+    let sets = c .before .before .before .before .before in
+    let script = sets .before .before .before in
+    let load = script .before .before .before in
+    let s = load .before .before .before .before .before .before in
+    lent-all (s .args .file .now) _ (script .copy-script .ensures .1) (load .load-cells .ensures) (sets .start-sets .ensures) (script .copy-script .ensures .0) _ _ (s .pre .2)
 
 store-cells-requires : tie.Need-store-cells-requires
-store-cells-requires c κs = c .before .before .before .before .before .before .before .before .before .before .before .before .before .before .before .before .before .pre .1
+store-cells-requires c κs = search needs
 
 answer-of-requires : tie.Need-answer-of-requires
-answer-of-requires c κs = c .before .before .before .before .before .before .before .before .before .before .before .before .before .before .run-programs .ensures .does .within
+answer-of-requires c κs = c .before .before .before .before .before .before .before .before .before .before .before .before .before .before .programs .ensures (sixteen (lit (pos 0))) .within
 
 same-length : tie.Need-same-length
-same-length c = c .before .before .before .before .before .before .store-cells .kept .1 .1 .1 .0
+same-length c = search needs
 
 same-length-2 : tie.Need-same-length-2
-same-length-2 c = c .before .before .before .before .before .before .store-cells .kept .1 .1 .1 .1 .0
+same-length-2 c = search needs
 
 same-length-3 : tie.Need-same-length-3
-same-length-3 c = c .before .before .before .before .before .before .store-cells .kept .1 .1 .1 .1 .1 .0
+same-length-3 c = search needs
 
 same-length-4 : tie.Need-same-length-4
-same-length-4 c = c .before .before .before .before .before .before .before .before .before .before .before .before .before .before .before .run-programs .kept .1 .1 .1 .1 .1 .0
+same-length-4 c = search needs
 
 returns : tie.Need-returns
 returns c =
-    let stored = c .before .before .before .before .before .before in
-    let ran = stored .before .before .before .before .before .before .before .before .before in
-    let s = ran .before .before .before .before .before .before .before .before .before in
-    let last = stored .store-cells .last .1 .1 .1 in
-    let kept = stored .store-cells .kept .1 .1 .1 in
-    let same = stored .store-cells .ensures in
-    let trace = ran .run-programs .last .1 .1 .1 .1 .1 .0 in
-    let words : Words (last .1 .0) = record { fits = λ i. c .before .before .before .slice-known5 .given i .fits } in
-    let sizes = end-sizes (s .pre .1) (kept .0) (kept .1 .0) (kept .1 .1 .0) words in
-    ap (λ (r : Answer). result r (lent (last .0) (last .1 .0) (last .1 .1 .0) trace)) (c .answer-of .ensures)
-    ∙ stored-gives (s .pre .0) (ran .run-programs .ensures) (same .0) (same .1) (same .2) sizes
+    let stored = c .before .before .before .before .before .before .before in
+    let ran = stored .before .before .before .before .before .before .before .before in
+    let sets = ran .before .before .before .before .before .before in
+    let script = sets .before .before .before in
+    let load = script .before .before .before in
+    let s = load .before .before .before .before .before .before in
+    rw (c .answer-of .ensures)
+    (run-gives (s .args .file .now) _ (script .copy-script .ensures .1) (load .load-cells .ensures) (sets .start-sets .ensures) _ (ran .programs .ensures) (stored .store-cells .ensures))
 
 pub started-spec : {M : Type 1} → statement M
 started-spec =
     tie.close
     (tie.spec
-    run-programs-requires
+    slice-aggregate-load-cells
+    load-cells-requires
+    copy-script-requires
+    start-sets-requires
+    programs-requires
     store-cells-requires
     answer-of-requires
     same-length

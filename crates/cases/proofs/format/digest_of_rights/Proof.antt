@@ -1,7 +1,5 @@
--- `cases::format::digest_of_rights` meets its contract: the sets are asked of an accepted file only.
-use mathlib.Core.Path.{_≡_, sym, _∙_}
-use Rattle.book.specs.Refusals.{verdict}
-use Rattle.book.specs.declared.Verdict.the-variants.{Accepted}
+-- `cases::format::digest_of_rights` meets its contract: the script is that of an accepted file.
+use mathlib.Core.Path.{sym, _∙_}
 use borrow.Author.Needs.{needs}
 use Rattle.cases.proofs.format.digest_of_rights.Statement.{statement}
 use Rattle.cases.proofs.format.digest_of_rights.Tie as tie
@@ -12,17 +10,17 @@ inspect-requires c κs = search needs
 enum-told : tie.Need-enum-told
 enum-told c = search needs
 
-accepted : (c : tie.After-enum-told) → verdict (c .before .before .before .before .args .file .now) ≡ Accepted
-accepted c = sym (c .before .before .inspect .ensures) ∙ c .enum-told .given .1
+copy-script-requires : tie.Need-copy-script-requires
+copy-script-requires c κs = sym (c .before .before .before .inspect .ensures) ∙ c .before .enum-told .given .1
 
 public-set-requires : tie.Need-public-set-requires
-public-set-requires c κs = accepted c
+public-set-requires c κs = c .before .copy-script .ensures .0
 
 right-sets-requires : tie.Need-right-sets-requires
-right-sets-requires c κs = accepted (c .before)
+right-sets-requires c κs = c .before .before .before .copy-script .ensures .0
 
 right-sets-requires-2 : tie.Need-right-sets-requires-2
-right-sets-requires-2 c κs = accepted (c .before .before)
+right-sets-requires-2 c κs = c .before .before .before .before .before .copy-script .ensures .0
 
 mixed-set-requires : tie.Need-mixed-set-requires
 mixed-set-requires c κs = search needs
@@ -48,6 +46,7 @@ digest-of-rights-spec =
     (tie.spec
     inspect-requires
     enum-told
+    copy-script-requires
     public-set-requires
     right-sets-requires
     right-sets-requires-2

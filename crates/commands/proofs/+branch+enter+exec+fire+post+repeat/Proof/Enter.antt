@@ -1,242 +1,118 @@
 -- The needs of `enter`.
+use mathlib.Core.Path.{_≡_, sym, _∙_}
+use mathlib.Core.Bool.{false, and-false}
+use Prim.Native.Nat.{ℕ, _+_, _*_, _≤_, _<_}
+use native.Mathlib.Decide.{decLt}
 use native.Mathlib.Omega.{arith}
-use mathlib.Core.Path.{sym, _∙_}
-use Prim.Native.Nat.{ℕ}
-use Rattle.machine.proofs.Nodes.{kind-below}
+use lib.Dec.{leb}
+use borrow.Author.Tests.{lt-leb}
+use Rattle.book.specs.Kinds.{between}
+use Rattle.book.specs.Refusals.{node-at}
+use Rattle.monitor.specs.Rules.{cost-at}
+use Rattle.machine.specs.Script.{script-of}
+use Rattle.machine.specs.Store.{store, Lent}
+use Rattle.machine.specs.Promises.{Paid, who-of}
+use Rattle.machine.proofs.Nodes.{Read, read-at, node-below, kind-below}
 use Rattle.commands.proofs.Chains.{weight-list}
-use Rattle.commands.proofs.Steps.{answers, entry-costs, enters, enters-not}
-use Rattle.commands.proofs.Lents.{command-read, cost-known, outside-kinds}
-use Rattle.commands.proofs.enter.Reads as enter
-use Rattle.commands.proofs.+branch+enter+exec+fire+post+repeat.Lts-enter as enter-lts
+use Rattle.commands.proofs.Steps.{lent-on, priced, paid-less, paid-keeps, enters, enters-not}
+use Rattle.commands.proofs.enter.Reads.{Post}
+use Rattle.commands.proofs.+branch+enter+exec+fire+post+repeat.Lts-enter as lts
 use Rattle.commands.proofs.+branch+enter+exec+fire+post+repeat.Proof.Common.{enter-at, enter-cs}
 
-pub enter-mul-kind : (t : ℕ) → enter-lts.Need-mul-kind (enter-cs t) (enter-at t) enter.Post
-enter-mul-kind t c =
-    let start = c .before in
-    let lent = start .pre .1 .0 in
-    let mine = start .pre .1 .1 in
-    let node = command-read (lent .ready) (mine .0) in
-    omega (arith, node .end, node .short)
+-- a kind that is none of 18 to 22
+past : {n k : ℕ} → n ≤ k → (k ≡ n → ⊥) → n + 1 ≤ k
+past h d = omega arith
 
-pub enter-add-kind : (t : ℕ) → enter-lts.Need-add-kind (enter-cs t) (enter-at t) enter.Post
-enter-add-kind t c =
-    let start = c .before in
-    let lent = start .pre .1 .0 in
-    let mine = start .pre .1 .1 in
-    let node = command-read (lent .ready) (mine .0) in
-    omega (arith, node .end, node .short)
+outside-kinds : {j k : ℕ} → k ≡ j → (k ≡ 18 → ⊥) → (k ≡ 19 → ⊥) → (k ≡ 20 → ⊥) → (k ≡ 21 → ⊥) → (k ≡ 22 → ⊥) → between 18 22 j ≡ false
+outside-kinds {j} {k} e not18 not19 not20 not21 not22 = rw (← e) (go (decLt k 18))
+  where
+    go : Dec (k < 18) → between 18 22 k ≡ false
+    go (yes h) = rw (lt-leb 18 k h)
+    go (no h) = rw (lt-leb k 22 (past (past (past (past (past (omega arith) not18) not19) not20) not21) not22)) (and-false (leb 18 k))
 
-pub enter-element-copy-out-kind : (t : ℕ) → enter-lts.Need-element-copy-out-kind (enter-cs t) (enter-at t) enter.Post
-enter-element-copy-out-kind t c =
-    let start = c .before in
-    let lent = start .pre .1 .0 in
-    let mine = start .pre .1 .1 in
-    let node = command-read (lent .ready) (mine .0) in
-    omega (arith, node .end, node .short)
+-- the node's record
+pub node : (t : ℕ) (s : lts.Start (enter-cs t) (enter-at t) Post) → Read (s .args .code .now) (16 * s .args .n) (node-at (script-of (s .args .code .now)) (s .args .n))
+node t s = read-at _ (s .pre .1 .0 .runnable) _ (s .pre .1 .1 .inside)
 
-pub enter-exec-requires : (t : ℕ) → enter-lts.Need-exec-requires (enter-cs t) (enter-at t) enter.Post
-enter-exec-requires t c κs =
-    let after-if1 = c .before .before .before .before .before .before .before .before in
-    let start = after-if1 .before .before .before in
-    let a = start .args in
-    let lent = start .pre .1 .0 in
-    let mine = start .pre .1 .1 in
-    let node = command-read (lent .ready) (mine .0) in
-    (omega (arith, start .pre .0, weight-list (a .file .now) (a .n) (a .left) (sym (node .kind) ∙ after-if1 .if1 .taken)), (lent, mine))
+-- its cost is paid, and the memory can be lent on
+paid : (t : ℕ) (c : lts.After-enum-told (enter-cs t) (enter-at t) Post) → let s = c .before .before .before .before .before .before .before in
+    Paid (s .args .run .now) (cost-at (script-of (s .args .code .now)) (s .args .n)) (c .before .before .pay .last .1 .1 .1 .0)
+paid t c =
+    let s = c .before .before .before .before .before .before .before in
+    priced (s .args .code .now) (s .args .n) (node t s .kind) (c .before .before .pay .ensures) .paid (c .enum-told .given .1)
 
-pub enter-passed-requires : (t : ℕ) → enter-lts.Need-passed-requires (enter-cs t) (enter-at t) enter.Post
-enter-passed-requires t c κs = tt
+lent : (t : ℕ) (c : lts.After-enum-told (enter-cs t) (enter-at t) Post) → let a = c .before .before .before .before .before .before .before .args in
+    Lent (a .code .now) (a .sets .now) (c .before .before .pay .last .1 .1 .1 .0) (a .trace .now)
+lent t c =
+    let s = c .before .before .before .before .before .before .before in
+    let a = s .args in
+    lent-on {x = store (a .cells .now) (a .sets .now) (a .run .now) (a .trace .now)} (s .pre .1 .0) (paid-keeps (a .code .now) (a .n) (s .pre .1 .0 .room) (paid t c))
 
-pub enter-same-length : (t : ℕ) → enter-lts.Need-same-length (enter-cs t) (enter-at t) enter.Post
-enter-same-length t c =
-    let after-exec = c .before .before .before in
-    after-exec .exec .kept .1 .1 .1 .1 .1 .1 .1 .1 .1 .1 .1 .1 .1 .1 .1 .1 .0
+pub exec-requires : (t : ℕ) → lts.Need-exec-requires (enter-cs t) (enter-at t) Post
+exec-requires t c κs =
+    let s = c .before .before .before .before .before .before .before .before .before in
+    (omega (arith, s .pre .0, weight-list (s .args .code .now) (s .args .n) (s .args .run .now) (sym (node t s .kind) ∙ c .before .before .before .before .before .before .if1 .taken)), s .pre .1)
 
-pub enter-returns : (t : ℕ) → enter-lts.Need-returns (enter-cs t) (enter-at t) enter.Post
-enter-returns t c =
-    let after-exec = c .before .before .before in
-    answers (c .passed .ensures) (after-exec .exec .ensures)
+pub pay-requires : (t : ℕ) → lts.Need-pay-requires (enter-cs t) (enter-at t) Post
+pay-requires t c κs =
+    let s = c .before .before .before .before in
+    let v = s .pre .1 .0 .runnable in
+    let h = s .pre .1 .1 .inside in
+    (v, omega (arith, node t s .kind, kind-below _ (v .sound) _ h), node-below _ (v .sound) _ h)
 
-pub enter-cast-cost : (t : ℕ) → enter-lts.Need-cast-cost (enter-cs t) (enter-at t) enter.Post
-enter-cast-cost t c =
-    let start = c .before .before .before in
-    let a = start .args in
-    let lent = start .pre .1 .0 in
-    let mine = start .pre .1 .1 in
-    let node = command-read (lent .ready) (mine .0) in
-    omega (arith, node .kind, kind-below (a .file .now) (lent .ready .runnable) (a .n) (mine .0 .inside))
+pub returns-2 : (t : ℕ) → lts.Need-returns-2 (enter-cs t) (enter-at t) Post
+returns-2 t c =
+    let s = c .before .before .before .before .before .before .before in
+    let a = s .args in
+    enters-not (a .code .now) (a .n) (a .ctx .now) (who-of (a .who .now)) (priced (a .code .now) (a .n) (node t s .kind) (c .before .before .pay .ensures) .short (c .enum-told2 .given .1)) (s .pre .1 .0 .room)
 
-pub enter-mul-cost : (t : ℕ) → enter-lts.Need-mul-cost (enter-cs t) (enter-at t) enter.Post
-enter-mul-cost t c =
-    let start = c .before .before .before in
-    let a = start .args in
-    let lent = start .pre .1 .0 in
-    let mine = start .pre .1 .1 in
-    let node = command-read (lent .ready) (mine .0) in
-    omega (arith, node .kind, kind-below (a .file .now) (lent .ready .runnable) (a .n) (mine .0 .inside))
+pub branch-requires : (t : ℕ) → lts.Need-branch-requires (enter-cs t) (enter-at t) Post
+branch-requires t c κs =
+    let s = c .before .before .before .before .before .before .before .before .before .before .before .before .before .before in
+    (omega (arith, s .pre .0, paid-less (s .args .code .now) (s .args .n) (paid t (c .before .before .before .before .before .before .before))), ((lent t (c .before .before .before .before .before .before .before), s .pre .1 .1, s .pre .1 .2), sym (node t s .kind) ∙ c .before .before .before .before .before .before .match2 .keys1))
 
-pub enter-element-copy-out-cost : (t : ℕ) → enter-lts.Need-element-copy-out-cost (enter-cs t) (enter-at t) enter.Post
-enter-element-copy-out-cost t c =
-    let start = c .before .before .before in
-    let a = start .args in
-    let lent = start .pre .1 .0 in
-    let mine = start .pre .1 .1 in
-    let node = command-read (lent .ready) (mine .0) in
-    omega (arith, node .kind, kind-below (a .file .now) (lent .ready .runnable) (a .n) (mine .0 .inside))
+pub repeat-requires : (t : ℕ) → lts.Need-repeat-requires (enter-cs t) (enter-at t) Post
+repeat-requires t c κs =
+    let s = c .before .before .before .before .before .before .before .before .before .before .before .before .before .before in
+    (omega (arith, s .pre .0, paid-less (s .args .code .now) (s .args .n) (paid t (c .before .before .before .before .before .before .before))), ((lent t (c .before .before .before .before .before .before .before), s .pre .1 .1, s .pre .1 .2), sym (node t s .kind) ∙ c .before .before .before .before .before .before .match2 .keys2))
 
-pub enter-stopped-requires : (t : ℕ) → enter-lts.Need-stopped-requires (enter-cs t) (enter-at t) enter.Post
-enter-stopped-requires t c κs = tt
+pub post-requires : (t : ℕ) → lts.Need-post-requires (enter-cs t) (enter-at t) Post
+post-requires t c κs =
+    let s = c .before .before .before .before .before .before .before .before .before .before .before .before .before .before in
+    (omega (arith, s .pre .0, paid-less (s .args .code .now) (s .args .n) (paid t (c .before .before .before .before .before .before .before))), ((lent t (c .before .before .before .before .before .before .before), s .pre .1 .1, s .pre .1 .2), (sym (node t s .kind) ∙ c .before .before .before .before .before .before .match2 .keys3, omega arith, omega arith)))
 
-pub enter-returns-2 : (t : ℕ) → enter-lts.Need-returns-2 (enter-cs t) (enter-at t) enter.Post
-enter-returns-2 t c =
-    let after-if2 = c .before in
-    let start = after-if2 .before .before .before .before .before in
-    let a = start .args in
-    let lent = start .pre .1 .0 in
-    let mine = start .pre .1 .1 in
-    let node = command-read (lent .ready) (mine .0) in
-    let price = cost-known _ (lent .ready) (mine .0) (node .kind) in
-    enters-not (a .file .now) (a .ctx .now) (a .user) (a .above) (a .n) price (omega (arith, after-if2 .if2 .taken)) (c .stopped .ensures) (lent .room)
+pub post-requires-2 : (t : ℕ) → lts.Need-post-requires-2 (enter-cs t) (enter-at t) Post
+post-requires-2 t c κs =
+    let s = c .before .before .before .before .before .before .before .before .before .before .before .before .before .before in
+    (omega (arith, s .pre .0, paid-less (s .args .code .now) (s .args .n) (paid t (c .before .before .before .before .before .before .before))), ((lent t (c .before .before .before .before .before .before .before), s .pre .1 .1, s .pre .1 .2), (sym (node t s .kind) ∙ c .before .before .before .before .before .before .match2 .keys4, omega arith, omega arith)))
 
-pub enter-branch-requires : (t : ℕ) → enter-lts.Need-branch-requires (enter-cs t) (enter-at t) enter.Post
-enter-branch-requires t c κs =
-    let after-match = c .before .before .before .before .before .before .before .before in
-    let after-if2 = after-match .before in
-    let start = after-if2 .before .before .before .before .before in
-    let a = start .args in
-    let lent = start .pre .1 .0 in
-    let mine = start .pre .1 .1 in
-    let node = command-read (lent .ready) (mine .0) in
-    let price = cost-known _ (lent .ready) (mine .0) (node .kind) in
-    (omega (arith, start .pre .0, after-if2 .if2 .left, entry-costs (a .file .now) (a .ctx .now) (a .user) (a .above) (a .n) price), (lent, (mine .0, mine .1, (sym (node .kind) ∙ after-match .match .keys1))))
+pub act-requires : (t : ℕ) → lts.Need-act-requires (enter-cs t) (enter-at t) Post
+act-requires t c κs =
+    let s = c .before .before .before .before .before .before .before .before .before .before .before .before .before .before in
+    let none = c .before .before .before .before .before .before .match2 .rest in
+    (lent t (c .before .before .before .before .before .before .before), (s .pre .1 .1, outside-kinds (node t s .kind) (c .before .before .before .before .before .before .before .before .before .before .before .if1 .left) (none .0 .0 .0 .1) (none .0 .0 .1) (none .0 .1) (none .1)))
 
-pub enter-repeat-requires : (t : ℕ) → enter-lts.Need-repeat-requires (enter-cs t) (enter-at t) enter.Post
-enter-repeat-requires t c κs =
-    let after-match = c .before .before .before .before .before .before .before .before in
-    let after-if2 = after-match .before in
-    let start = after-if2 .before .before .before .before .before in
-    let a = start .args in
-    let lent = start .pre .1 .0 in
-    let mine = start .pre .1 .1 in
-    let node = command-read (lent .ready) (mine .0) in
-    let price = cost-known _ (lent .ready) (mine .0) (node .kind) in
-    (omega (arith, start .pre .0, after-if2 .if2 .left, entry-costs (a .file .now) (a .ctx .now) (a .user) (a .above) (a .n) price), (lent, (mine .0, mine .1, (sym (node .kind) ∙ after-match .match .keys2))))
+pub returns-3 : (t : ℕ) → lts.Need-returns-3 (enter-cs t) (enter-at t) Post
+returns-3 t c =
+    let a = c .before .before .before .before .before .before .before .before .before .before .before .before .before .before .before .before .before .args in
+    enters (a .code .now) (a .n) (a .ctx .now) (who-of (a .who .now)) (paid t (c .before .before .before .before .before .before .before .before .before .before)) (c .before .before .branch .ensures)
 
-pub enter-post-requires : (t : ℕ) → enter-lts.Need-post-requires (enter-cs t) (enter-at t) enter.Post
-enter-post-requires t c κs =
-    let after-match = c .before .before .before .before .before .before .before .before in
-    let after-if2 = after-match .before in
-    let start = after-if2 .before .before .before .before .before in
-    let a = start .args in
-    let lent = start .pre .1 .0 in
-    let mine = start .pre .1 .1 in
-    let node = command-read (lent .ready) (mine .0) in
-    let price = cost-known _ (lent .ready) (mine .0) (node .kind) in
-    (omega (arith, start .pre .0, after-if2 .if2 .left, entry-costs (a .file .now) (a .ctx .now) (a .user) (a .above) (a .n) price), (lent, (mine .0, mine .1, (sym (node .kind) ∙ after-match .match .keys3), omega arith, omega arith)))
+pub returns-4 : (t : ℕ) → lts.Need-returns-4 (enter-cs t) (enter-at t) Post
+returns-4 t c =
+    let a = c .before .before .before .before .before .before .before .before .before .before .before .before .before .before .before .before .before .args in
+    enters (a .code .now) (a .n) (a .ctx .now) (who-of (a .who .now)) (paid t (c .before .before .before .before .before .before .before .before .before .before)) (c .before .before .repeat .ensures)
 
-pub enter-post-requires-2 : (t : ℕ) → enter-lts.Need-post-requires-2 (enter-cs t) (enter-at t) enter.Post
-enter-post-requires-2 t c κs =
-    let after-match = c .before .before .before .before .before .before .before .before in
-    let after-if2 = after-match .before in
-    let start = after-if2 .before .before .before .before .before in
-    let a = start .args in
-    let lent = start .pre .1 .0 in
-    let mine = start .pre .1 .1 in
-    let node = command-read (lent .ready) (mine .0) in
-    let price = cost-known _ (lent .ready) (mine .0) (node .kind) in
-    (omega (arith, start .pre .0, after-if2 .if2 .left, entry-costs (a .file .now) (a .ctx .now) (a .user) (a .above) (a .n) price), (lent, (mine .0, mine .1, (sym (node .kind) ∙ after-match .match .keys4), omega arith, omega arith)))
+pub returns-5 : (t : ℕ) → lts.Need-returns-5 (enter-cs t) (enter-at t) Post
+returns-5 t c =
+    let a = c .before .before .before .before .before .before .before .before .before .before .before .before .before .before .before .before .before .args in
+    enters (a .code .now) (a .n) (a .ctx .now) (who-of (a .who .now)) (paid t (c .before .before .before .before .before .before .before .before .before .before)) (c .before .before .post .ensures)
 
-pub enter-act-requires : (t : ℕ) → enter-lts.Need-act-requires (enter-cs t) (enter-at t) enter.Post
-enter-act-requires t c κs =
-    let after-match = c .before .before .before .before .before .before .before .before in
-    let after-if1 = after-match .before .before .before in
-    let start = after-if1 .before .before .before in
-    let lent = start .pre .1 .0 in
-    let mine = start .pre .1 .1 in
-    let node = command-read (lent .ready) (mine .0) in
-    (lent, (mine .0, outside-kinds (node .kind) (after-if1 .if1 .left) (after-match .match .rest .0 .0 .0 .1) (after-match .match .rest .0 .0 .1) (after-match .match .rest .0 .1) (after-match .match .rest .1)))
+pub returns-6 : (t : ℕ) → lts.Need-returns-6 (enter-cs t) (enter-at t) Post
+returns-6 t c =
+    let a = c .before .before .before .before .before .before .before .before .before .before .before .before .before .before .before .before .before .args in
+    enters (a .code .now) (a .n) (a .ctx .now) (who-of (a .who .now)) (paid t (c .before .before .before .before .before .before .before .before .before .before)) (c .before .before .post2 .ensures)
 
-pub enter-same-length-2 : (t : ℕ) → enter-lts.Need-same-length-2 (enter-cs t) (enter-at t) enter.Post
-enter-same-length-2 t c =
-    let after-branch = c .before .before in
-    after-branch .branch .kept .1 .1 .1 .1 .1 .1 .1 .1 .1 .1 .1 .1 .1 .1 .1 .1 .0
-
-pub enter-returns-3 : (t : ℕ) → enter-lts.Need-returns-3 (enter-cs t) (enter-at t) enter.Post
-enter-returns-3 t c =
-    let after-branch = c .before .before in
-    let after-if2 = after-branch .before .before .before .before .before .before .before .before .before .before in
-    let start = after-if2 .before .before .before .before .before in
-    let a = start .args in
-    let lent = start .pre .1 .0 in
-    let mine = start .pre .1 .1 in
-    let node = command-read (lent .ready) (mine .0) in
-    let price = cost-known _ (lent .ready) (mine .0) (node .kind) in
-    enters (a .file .now) (a .ctx .now) (a .user) (a .above) (a .n) price (omega (arith, after-if2 .if2 .left)) (after-branch .branch .ensures)
-
-pub enter-same-length-3 : (t : ℕ) → enter-lts.Need-same-length-3 (enter-cs t) (enter-at t) enter.Post
-enter-same-length-3 t c =
-    let after-repeat = c .before .before in
-    after-repeat .repeat .kept .1 .1 .1 .1 .1 .1 .1 .1 .1 .1 .1 .1 .1 .1 .1 .1 .0
-
-pub enter-returns-4 : (t : ℕ) → enter-lts.Need-returns-4 (enter-cs t) (enter-at t) enter.Post
-enter-returns-4 t c =
-    let after-repeat = c .before .before in
-    let after-if2 = after-repeat .before .before .before .before .before .before .before .before .before .before in
-    let start = after-if2 .before .before .before .before .before in
-    let a = start .args in
-    let lent = start .pre .1 .0 in
-    let mine = start .pre .1 .1 in
-    let node = command-read (lent .ready) (mine .0) in
-    let price = cost-known _ (lent .ready) (mine .0) (node .kind) in
-    enters (a .file .now) (a .ctx .now) (a .user) (a .above) (a .n) price (omega (arith, after-if2 .if2 .left)) (after-repeat .repeat .ensures)
-
-pub enter-same-length-4 : (t : ℕ) → enter-lts.Need-same-length-4 (enter-cs t) (enter-at t) enter.Post
-enter-same-length-4 t c =
-    let after-post = c .before .before in
-    after-post .post .kept .1 .1 .1 .1 .1 .1 .1 .1 .1 .1 .1 .1 .1 .1 .1 .1 .1 .0
-
-pub enter-returns-5 : (t : ℕ) → enter-lts.Need-returns-5 (enter-cs t) (enter-at t) enter.Post
-enter-returns-5 t c =
-    let after-post = c .before .before in
-    let after-if2 = after-post .before .before .before .before .before .before .before .before .before .before in
-    let start = after-if2 .before .before .before .before .before in
-    let a = start .args in
-    let lent = start .pre .1 .0 in
-    let mine = start .pre .1 .1 in
-    let node = command-read (lent .ready) (mine .0) in
-    let price = cost-known _ (lent .ready) (mine .0) (node .kind) in
-    enters (a .file .now) (a .ctx .now) (a .user) (a .above) (a .n) price (omega (arith, after-if2 .if2 .left)) (after-post .post .ensures)
-
-pub enter-same-length-5 : (t : ℕ) → enter-lts.Need-same-length-5 (enter-cs t) (enter-at t) enter.Post
-enter-same-length-5 t c =
-    let after-post2 = c .before .before in
-    after-post2 .post2 .kept .1 .1 .1 .1 .1 .1 .1 .1 .1 .1 .1 .1 .1 .1 .1 .1 .1 .0
-
-pub enter-returns-6 : (t : ℕ) → enter-lts.Need-returns-6 (enter-cs t) (enter-at t) enter.Post
-enter-returns-6 t c =
-    let after-post2 = c .before .before in
-    let after-if2 = after-post2 .before .before .before .before .before .before .before .before .before .before in
-    let start = after-if2 .before .before .before .before .before in
-    let a = start .args in
-    let lent = start .pre .1 .0 in
-    let mine = start .pre .1 .1 in
-    let node = command-read (lent .ready) (mine .0) in
-    let price = cost-known _ (lent .ready) (mine .0) (node .kind) in
-    enters (a .file .now) (a .ctx .now) (a .user) (a .above) (a .n) price (omega (arith, after-if2 .if2 .left)) (after-post2 .post2 .ensures)
-
-pub enter-same-length-6 : (t : ℕ) → enter-lts.Need-same-length-6 (enter-cs t) (enter-at t) enter.Post
-enter-same-length-6 t c =
-    let after-act = c .before .before in
-    after-act .act .kept .1 .1 .1 .1 .1 .1 .1 .1 .1 .1 .1 .1 .1 .1 .1 .0
-
-pub enter-returns-7 : (t : ℕ) → enter-lts.Need-returns-7 (enter-cs t) (enter-at t) enter.Post
-enter-returns-7 t c =
-    let after-act = c .before .before in
-    let after-if2 = after-act .before .before .before .before .before .before .before .before .before .before in
-    let start = after-if2 .before .before .before .before .before in
-    let a = start .args in
-    let lent = start .pre .1 .0 in
-    let mine = start .pre .1 .1 in
-    let node = command-read (lent .ready) (mine .0) in
-    let price = cost-known _ (lent .ready) (mine .0) (node .kind) in
-    enters (a .file .now) (a .ctx .now) (a .user) (a .above) (a .n) price (omega (arith, after-if2 .if2 .left)) (after-act .act .ensures .does (a .above))
+pub returns-7 : (t : ℕ) → lts.Need-returns-7 (enter-cs t) (enter-at t) Post
+returns-7 t c =
+    let a = c .before .before .before .before .before .before .before .before .before .before .before .before .before .before .before .before .before .args in
+    enters (a .code .now) (a .n) (a .ctx .now) (who-of (a .who .now)) (paid t (c .before .before .before .before .before .before .before .before .before .before)) (c .before .before .act .ensures)

@@ -1,174 +1,95 @@
 -- The needs of `exec`.
+use mathlib.Core.Path.{sym, _∙_}
+use mathlib.Core.Logic.{⊎-elim}
+use Prim.Native.Nat.{ℕ, _*_}
 use native.Mathlib.Omega.{arith}
-use mathlib.Core.Path.{refl, sym, _∙_}
-use Prim.Native.Nat.{ℕ}
-use borrow.Author.Tests.{not-true, not-false}
-use Rattle.machine.specs.Promises.{ran}
-use Rattle.commands.proofs.Chains.{chain-unpaid, head-node, head-less, chain-stops, chain-ends, chain-less, chain-turns}
-use Rattle.commands.proofs.Lents.{command-read, lent-after}
-use Rattle.commands.proofs.Steps.{answers}
-use Rattle.commands.proofs.exec.Reads as exec
-use Rattle.commands.proofs.+branch+enter+exec+fire+post+repeat.Lts-exec as exec-lts
-use Rattle.commands.proofs.+branch+enter+exec+fire+post+repeat.Proof.Common.{exec-at, exec-cs, exec-Inv-loop, exec-μ-loop}
+use lib.Dec.{eqb, lit<}
+use borrow.Author.Tests.{eqb-true, eqb-false, not-true, not-false}
+use Rattle.book.specs.Bytes.{byte}
+use Rattle.book.specs.Refusals.{node-at}
+use Rattle.machine.specs.Script.{script-of}
+use Rattle.machine.specs.Promises.{who-of}
+use Rattle.machine.specs.Store.{left-of, vars-of, store}
+use Rattle.machine.proofs.Nodes.{Read, read-at, node-below}
+use Rattle.commands.proofs.Chains.{Chain, Head, head-list, head-single, chain-stops, chain-ends, chain-turns}
+use Rattle.commands.proofs.Steps.{does-keeps, keeps-both, lent-on, rest-start, priced, enters-not}
+use Rattle.commands.proofs.exec.Reads.{Post}
+use Rattle.commands.proofs.+branch+enter+exec+fire+post+repeat.Lts-exec as lts
+use Rattle.commands.proofs.+branch+enter+exec+fire+post+repeat.Proof.Common.{exec-at, exec-cs}
 
-pub exec-loop-holds : (t : ℕ) → exec-lts.Need-loop-holds (exec-cs t) (exec-at t) exec.Post exec-Inv-loop exec-μ-loop
-exec-loop-holds t c =
-    let start = c .before in
-    let lent = start .pre .1 .0 in
-    let mine = start .pre .1 .1 in
-    record { node = mine .0; ends = λ d. d; same = refl; fits = lent .room; within = omega arith }
+abbrev pub Inv-loop : lts.InvT-loop
+Inv-loop code n who ctx vars₀ tags₀ cells₀ sets₀ run₀ trace₀ turn₀ vars tags cells sets run trace turn =
+    Chain code ctx (who-of who) n (vars-of vars₀ tags₀) (store cells₀ sets₀ run₀ trace₀) turn (vars-of vars tags) (store cells sets run trace)
 
-pub exec-head-of-requires : (t : ℕ) → exec-lts.Need-head-of-requires (exec-cs t) (exec-at t) exec.Post exec-Inv-loop exec-μ-loop
-exec-head-of-requires t c κs =
-    let start = c .before .before in
-    let lent = start .pre .1 .0 in
-    let chain = c .loop .inv in
-    (lent .ready, chain .node)
+abbrev pub μ-loop : lts.MeasureT-loop
+μ-loop code n who ctx vars₀ tags₀ cells₀ sets₀ run₀ trace₀ turn₀ vars tags cells sets run trace turn = left-of run
 
-pub exec-stopped-requires : (t : ℕ) → exec-lts.Need-stopped-requires (exec-cs t) (exec-at t) exec.Post exec-Inv-loop exec-μ-loop
-exec-stopped-requires t c κs = tt
+-- the record of the turn's node
+pub node : (t : ℕ) (c : lts.At-loop (exec-cs t) (exec-at t) Post Inv-loop μ-loop) → let code = c .before .before .args .code .now in
+    Read code (16 * c .loop .turn) (node-at (script-of code) (c .loop .turn))
+node t c = read-at _ (c .before .before .pre .1 .0 .runnable) _ (c .loop .inv .node .inside)
 
-pub exec-same-length : (t : ℕ) → exec-lts.Need-same-length (exec-cs t) (exec-at t) exec.Post exec-Inv-loop exec-μ-loop
-exec-same-length t c =
-    let after-loop = c .before .before .before .before in
-    let chain = after-loop .loop .inv in
-    chain .same
+-- the command that the turn enters
+head : (t : ℕ) (c : lts.Joined1 (exec-cs t) (exec-at t) Post Inv-loop μ-loop) → let a = c .before .before .before .before .args in let l = c .before .before .loop in
+    Head (a .code .now) (a .ctx .now) (who-of (a .who .now)) (l .turn) (vars-of (l .vars) (l .tags)) (store (l .cells) (l .sets) (l .run) (l .trace))
+    (eqb (byte (a .code .now) (16 * l .turn)) 18) (c .if1 .next) (store (l .cells) (l .sets) (c .if1 .run) (l .trace))
+head t c =
+    let s = c .before .before .before .before in
+    let a = s .args in
+    let chain = c .before .before .loop .inv in
+    let read = node t (c .before .before) in
+    ⊎-elim
+    (λ w. let kind = sym (read .kind) ∙ eqb-true _ 18 (w .0 .taken) in
+    head-list (a .code .now) (a .ctx .now) (who-of (a .who .now)) _ (chain .rest .keeps .fits) (w .0 .taken) (s .pre .1 .0 .runnable) (chain .node .inside) kind (w .8 ∙ w .6 .ensures .0 ∙ read .a)
+    (rw (w .7) (priced (a .code .now) _ (sym kind) (w .2 .ensures) .paid (w .4 .given .1))))
+    (λ w. rw (w .1) (head-single (a .code .now) (a .ctx .now) (who-of (a .who .now)) _ (chain .rest .keeps .fits) (w .0 .left) (chain .node) (λ e. eqb-false _ 18 (w .0 .left) (read .kind ∙ e)) (w .2)))
+    (c .if1 .came)
 
-pub exec-returns : (t : ℕ) → exec-lts.Need-returns (exec-cs t) (exec-at t) exec.Post exec-Inv-loop exec-μ-loop
-exec-returns t c =
-    let after-if1 = c .before in
-    let after-head-of = after-if1 .before .before in
-    let after-loop = after-head-of .before in
-    let start = after-loop .before .before in
-    let a = start .args in
-    let lent = start .pre .1 .0 in
-    let chain = after-loop .loop .inv in
-    chain-unpaid (a .file .now) (a .ctx .now) (a .user) (a .above) (a .n) (lent .ready) chain (after-head-of .head-of .ensures) (not-true _ (after-if1 .if1 .taken)) (c .stopped .ensures)
+pub loop-holds : (t : ℕ) → lts.Need-loop-holds (exec-cs t) (exec-at t) Post Inv-loop μ-loop
+loop-holds t c =
+    let s = c .before in
+    record { node = s .pre .1 .1; rest = rest-start (s .pre .1 .0 .room); within = omega arith }
 
-pub exec-enter-requires : (t : ℕ) → exec-lts.Need-enter-requires (exec-cs t) (exec-at t) exec.Post exec-Inv-loop exec-μ-loop
-exec-enter-requires t c κs =
-    let after-if1 = c .before .before .before .before .before .before .before .before in
-    let after-head-of = after-if1 .before .before in
-    let after-loop = after-head-of .before in
-    let start = after-loop .before .before in
-    let a = start .args in
-    let lent = start .pre .1 .0 in
-    let mine = start .pre .1 .1 in
-    let chain = after-loop .loop .inv in
-    (omega (arith, start .pre .0, head-less (a .file .now) (a .ctx .now) (a .user) (a .above) (a .n) (lent .ready) chain (after-head-of .head-of .ensures) (not-false _ (after-if1 .if1 .left))), (lent-after lent (chain .same) (chain .fits), (head-node (a .file .now) (a .ctx .now) (a .user) (a .above) (a .n) (lent .ready) chain (after-head-of .head-of .ensures) (not-false _ (after-if1 .if1 .left)), mine .1)))
+pub pay-requires : (t : ℕ) → lts.Need-pay-requires (exec-cs t) (exec-at t) Post Inv-loop μ-loop
+pay-requires t c κs =
+    let v = c .before .before .before .before .before .pre .1 .0 .runnable in
+    (v, lit< tt, node-below _ (v .sound) _ (c .before .before .before .loop .inv .node .inside))
 
-pub exec-enum-told : (t : ℕ) → exec-lts.Need-enum-told (exec-cs t) (exec-at t) exec.Post exec-Inv-loop exec-μ-loop
-exec-enum-told t c = c .match .keys1
+pub returns : (t : ℕ) → lts.Need-returns (exec-cs t) (exec-at t) Post Inv-loop μ-loop
+returns t c =
+    let a = c .before .before .before .before .before .before .before .before .args in
+    let chain = c .before .before .before .before .before .before .loop .inv in
+    chain .rest .ends (enters-not (a .code .now) _ (a .ctx .now) (who-of (a .who .now))
+    (priced (a .code .now) _ (sym (eqb-true _ 18 (c .before .before .before .before .if1 .taken)) ∙ node t (c .before .before .before .before .before .before) .kind) (c .before .before .pay .ensures) .short (c .enum-told2 .given .1)) (chain .rest .keeps .fits))
 
-pub exec-enum-told-2 : (t : ℕ) → exec-lts.Need-enum-told-2 (exec-cs t) (exec-at t) exec.Post exec-Inv-loop exec-μ-loop
-exec-enum-told-2 t c = c .match .keys2
+pub enter-requires : (t : ℕ) → lts.Need-enter-requires (exec-cs t) (exec-at t) Post Inv-loop μ-loop
+enter-requires t c κs =
+    let s = c .before .before .before .before .before .before .before .before .before .before in
+    let chain = c .before .before .before .before .before .before .before .before .loop .inv in
+    let h = head t (c .before .before .before .before .before .before) in
+    (omega (arith, s .pre .0, chain .within, h .less), (lent-on (s .pre .1 .0) (keeps-both (chain .rest .keeps) (h .keeps)), h .node-is, s .pre .1 .2))
 
-pub exec-passed-requires : (t : ℕ) → exec-lts.Need-passed-requires (exec-cs t) (exec-at t) exec.Post exec-Inv-loop exec-μ-loop
-exec-passed-requires t c κs = tt
+pub same-length-2 : (t : ℕ) → lts.Need-same-length-2 (exec-cs t) (exec-at t) Post Inv-loop μ-loop
+same-length-2 t c = does-keeps (c .before .before .before .before .enter .ensures) .same ∙ head t (c .before .before .before .before .before .before .before .before .before .before .before) .keeps .same ∙ c .before .before .before .before .before .before .before .before .before .before .before .before .before .loop .inv .rest .keeps .same
 
-pub exec-same-length-2 : (t : ℕ) → exec-lts.Need-same-length-2 (exec-cs t) (exec-at t) exec.Post exec-Inv-loop exec-μ-loop
-exec-same-length-2 t c =
-    let after-enter = c .before .before .before .before .before in
-    let after-loop = after-enter .before .before .before .before .before .before .before .before .before .before .before .before in
-    let chain = after-loop .loop .inv in
-    after-enter .enter .kept .1 .1 .1 .1 .1 .1 .1 .1 .1 .1 .1 .1 .1 .1 .1 .1 .0 ∙ chain .same
+pub returns-2 : (t : ℕ) → lts.Need-returns-2 (exec-cs t) (exec-at t) Post Inv-loop μ-loop
+returns-2 t c = chain-stops (c .before .before .before .before .before .before .before .before .before .before .before .before .before .loop .inv) (head t (c .before .before .before .before .before .before .before .before .before .before .before)) (c .before .before .before .before .enter .ensures) (c .enum-told4 .given .1)
 
-pub exec-returns-2 : (t : ℕ) → exec-lts.Need-returns-2 (exec-cs t) (exec-at t) exec.Post exec-Inv-loop exec-μ-loop
-exec-returns-2 t c =
-    let after-enum-told2 = c .before in
-    let after-enter = after-enum-told2 .before .before .before .before in
-    let after-if1 = after-enter .before .before .before .before .before .before .before .before .before in
-    let after-head-of = after-if1 .before .before in
-    let after-loop = after-head-of .before in
-    let start = after-loop .before .before in
-    let a = start .args in
-    let lent = start .pre .1 .0 in
-    let chain = after-loop .loop .inv in
-    answers (c .passed .ensures) (chain-stops (a .file .now) (a .ctx .now) (a .user) (a .above) (a .n) (lent .ready) chain (after-head-of .head-of .ensures) (not-false _ (after-if1 .if1 .left)) (after-enter .enter .ensures) (after-enum-told2 .enum-told2 .given .1))
+pub same-length-3 : (t : ℕ) → lts.Need-same-length-3 (exec-cs t) (exec-at t) Post Inv-loop μ-loop
+same-length-3 t c = does-keeps (c .before .before .before .before .before .enter .ensures) .same ∙ head t (c .before .before .before .before .before .before .before .before .before .before .before .before) .keeps .same ∙ c .before .before .before .before .before .before .before .before .before .before .before .before .before .before .loop .inv .rest .keeps .same
 
-pub exec-finished-requires : (t : ℕ) → exec-lts.Need-finished-requires (exec-cs t) (exec-at t) exec.Post exec-Inv-loop exec-μ-loop
-exec-finished-requires t c κs = tt
+pub returns-3 : (t : ℕ) → lts.Need-returns-3 (exec-cs t) (exec-at t) Post Inv-loop μ-loop
+returns-3 t c = chain-ends (c .before .before .before .before .before .before .before .before .before .before .before .before .before .before .loop .inv) (head t (c .before .before .before .before .before .before .before .before .before .before .before .before)) (not-true _ (c .if2 .taken)) (c .before .before .before .before .before .enter .ensures) (c .before .enum-told3 .given .1)
 
-pub exec-same-length-3 : (t : ℕ) → exec-lts.Need-same-length-3 (exec-cs t) (exec-at t) exec.Post exec-Inv-loop exec-μ-loop
-exec-same-length-3 t c =
-    let after-enter = c .before .before .before .before .before .before .before in
-    let after-loop = after-enter .before .before .before .before .before .before .before .before .before .before .before .before in
-    let chain = after-loop .loop .inv in
-    after-enter .enter .kept .1 .1 .1 .1 .1 .1 .1 .1 .1 .1 .1 .1 .1 .1 .1 .1 .0 ∙ chain .same
+pub add-u16-at-2 : (t : ℕ) → lts.Need-add-u16-at-2 (exec-cs t) (exec-at t) Post Inv-loop μ-loop
+add-u16-at-2 t c = omega (arith, node t (c .before .before .before .before .before .before .before .before .before .before .before .before .before .before .before) .short)
 
-pub exec-returns-3 : (t : ℕ) → exec-lts.Need-returns-3 (exec-cs t) (exec-at t) exec.Post exec-Inv-loop exec-μ-loop
-exec-returns-3 t c =
-    let after-if2 = c .before in
-    let after-enum-told = after-if2 .before .before in
-    let after-enter = after-enum-told .before .before .before .before in
-    let after-head-of = after-enter .before .before .before .before .before .before .before .before .before .before .before in
-    let after-loop = after-head-of .before in
-    let start = after-loop .before .before in
-    let a = start .args in
-    let lent = start .pre .1 .0 in
-    let chain = after-loop .loop .inv in
-    let done = after-enter .enter .result in
-    answers (c .finished .ensures ∙ λ i. ran (sym (after-enum-told .enum-told .given .1) i) (done .left) (done .used)) (chain-ends (a .file .now) (a .ctx .now) (a .user) (a .above) (a .n) (lent .ready) chain (after-head-of .head-of .ensures) (not-true _ (after-if2 .if2 .taken)) (after-enter .enter .ensures))
+pub u16-at-requires-2 : (t : ℕ) → lts.Need-u16-at-requires-2 (exec-cs t) (exec-at t) Post Inv-loop μ-loop
+u16-at-requires-2 t c κs = omega (arith, node t (c .before .before .before .before .before .before .before .before .before .before .before .before .before .before .before) .end)
 
-pub exec-mul-u16-at : (t : ℕ) → exec-lts.Need-mul-u16-at (exec-cs t) (exec-at t) exec.Post exec-Inv-loop exec-μ-loop
-exec-mul-u16-at t c =
-    let after-loop = c .before .before .before .before .before .before .before .before .before .before .before .before .before .before .before .before .before .before .before in
-    let start = after-loop .before .before in
-    let lent = start .pre .1 .0 in
-    let chain = after-loop .loop .inv in
-    let node = command-read (lent .ready) (chain .node) in
-    omega (arith, node .end, node .short)
+pub loop-less : (t : ℕ) → lts.Need-loop-less (exec-cs t) (exec-at t) Post Inv-loop μ-loop
+loop-less t c = omega (arith, head t (c .before .before .before .before .before .before .before .before .before .before .before .before .before .before) .falls (not-false _ (c .before .before .if2 .left)), c .before .before .before .before .before .before .before .enter .ensures .within)
 
-pub exec-add-u16-at : (t : ℕ) → exec-lts.Need-add-u16-at (exec-cs t) (exec-at t) exec.Post exec-Inv-loop exec-μ-loop
-exec-add-u16-at t c =
-    let after-loop = c .before .before .before .before .before .before .before .before .before .before .before .before .before .before .before .before .before .before .before in
-    let start = after-loop .before .before in
-    let lent = start .pre .1 .0 in
-    let chain = after-loop .loop .inv in
-    let node = command-read (lent .ready) (chain .node) in
-    omega (arith, node .end, node .short)
-
-pub exec-add-u16-at-2 : (t : ℕ) → exec-lts.Need-add-u16-at-2 (exec-cs t) (exec-at t) exec.Post exec-Inv-loop exec-μ-loop
-exec-add-u16-at-2 t c =
-    let after-loop = c .before .before .before .before .before .before .before .before .before .before .before .before .before .before .before .before .before .before .before in
-    let start = after-loop .before .before in
-    let lent = start .pre .1 .0 in
-    let chain = after-loop .loop .inv in
-    let node = command-read (lent .ready) (chain .node) in
-    omega (arith, node .end, node .short)
-
-pub exec-u16-at-requires : (t : ℕ) → exec-lts.Need-u16-at-requires (exec-cs t) (exec-at t) exec.Post exec-Inv-loop exec-μ-loop
-exec-u16-at-requires t c κs =
-    let after-loop = c .before .before .before .before .before .before .before .before .before .before .before .before .before .before .before .before .before .before .before in
-    let start = after-loop .before .before in
-    let lent = start .pre .1 .0 in
-    let chain = after-loop .loop .inv in
-    let node = command-read (lent .ready) (chain .node) in
-    omega (arith, node .end, node .short)
-
-pub exec-loop-less : (t : ℕ) → exec-lts.Need-loop-less (exec-cs t) (exec-at t) exec.Post exec-Inv-loop exec-μ-loop
-exec-loop-less t c =
-    let after-if2 = c .before .before in
-    let after-enter = after-if2 .before .before .before .before .before .before in
-    let after-if1 = after-enter .before .before .before .before .before .before .before .before .before in
-    let after-head-of = after-if1 .before .before in
-    let after-loop = after-head-of .before in
-    let start = after-loop .before .before in
-    let a = start .args in
-    let lent = start .pre .1 .0 in
-    let chain = after-loop .loop .inv in
-    chain-less (a .file .now) (a .ctx .now) (a .user) (a .above) (a .n) (lent .ready) chain (after-head-of .head-of .ensures) (not-false _ (after-if1 .if1 .left)) (not-false _ (after-if2 .if2 .left)) (after-enter .enter .ensures)
-
-pub exec-loop-again : (t : ℕ) → exec-lts.Need-loop-again (exec-cs t) (exec-at t) exec.Post exec-Inv-loop exec-μ-loop
-exec-loop-again t c =
-    let after-if2 = c .before .before in
-    let after-enum-told = after-if2 .before .before in
-    let after-enter = after-enum-told .before .before .before .before in
-    let after-if1 = after-enter .before .before .before .before .before .before .before .before .before in
-    let after-head-of = after-if1 .before .before in
-    let after-loop = after-head-of .before in
-    let start = after-loop .before .before in
-    let a = start .args in
-    let lent = start .pre .1 .0 in
-    let chain = after-loop .loop .inv in
-    chain-turns (a .file .now) (a .ctx .now) (a .user) (a .above) (a .n) (lent .ready) chain (after-head-of .head-of .ensures) (not-false _ (after-if1 .if1 .left)) (not-false _ (after-if2 .if2 .left)) (after-enter .enter .ensures) (after-enum-told .enum-told .given .1) (c .u16-at .ensures .0)
+pub loop-again : (t : ℕ) → lts.Need-loop-again (exec-cs t) (exec-at t) Post Inv-loop μ-loop
+loop-again t c = chain-turns (c .before .before .before .before .before .before .before .before .before .before .before .before .before .before .before .before .loop .inv) (head t (c .before .before .before .before .before .before .before .before .before .before .before .before .before .before)) (not-false _ (c .before .before .if2 .left)) (c .before .before .before .before .before .before .before .enter .ensures) (c .before .before .before .enum-told3 .given .1)
+    (c .u16-at2 .ensures .0 ∙ node t (c .before .before .before .before .before .before .before .before .before .before .before .before .before .before .before .before) .b)

@@ -1,132 +1,85 @@
 -- The needs of `fire`.
-use native.Mathlib.Omega.{arith}
 use mathlib.Core.Path.{refl, sym, _∙_}
+use mathlib.Core.List.{[]}
 use Prim.Native.Nat.{ℕ, _-_}
-use mir.Syntax.{w32}
-use mir.Val.{ofZ}
-use mir.Facts.{toZ-ofZ}
-use Rattle.book.specs.Layout.{count}
-use Rattle.machine.specs.Store.{Store, cell}
-use Rattle.machine.specs.Promises.{DoesAside}
-use Rattle.machine.specs.Writes.{key-of, Fires}
-use Rattle.machine.specs.declared.Ran.{Ran}
-use Rattle.commands.proofs.Firing.{fires-as, Found, found, remains-none, remains-stops, remains-turns, trigger-runs}
-use Rattle.commands.proofs.Chains.{weight-most}
-use Rattle.commands.proofs.Lents.{lent-after}
-use Rattle.commands.proofs.Steps.{answers-aside}
-use Rattle.commands.proofs.fire.Reads as fire
-use Rattle.commands.proofs.+branch+enter+exec+fire+post+repeat.Lts-fire as fire-lts
-use Rattle.commands.proofs.+branch+enter+exec+fire+post+repeat.Proof.Common.{fire-at, fire-cs, key-in, cell-in, fire-Inv-loop, fire-μ-loop}
+use native.Mathlib.Omega.{arith}
+use lib.ListN.{length}
+use Rattle.machine.specs.Script.{script-of}
+use Rattle.machine.specs.Store.{store}
+use Rattle.machine.specs.Writes.{key-in, cell-in}
+use Rattle.monitor.specs.Labelled.{Label}
+use Rattle.commands.proofs.Chains.{weight-kept}
+use Rattle.commands.proofs.Firing.{variables-are, Found, found, none-left, found-stops, found-goes, found-runs, Remains}
+use Rattle.commands.proofs.Steps.{does-keeps, keeps-both, keeps-itself, lent-on, answers}
+use Rattle.commands.proofs.fire.Reads.{Post}
+use Rattle.commands.proofs.+branch+enter+exec+fire+post+repeat.Lts-fire as lts
+use Rattle.commands.proofs.+branch+enter+exec+fire+post+repeat.Proof.Common.{fire-at, fire-cs}
 
--- the trigger that a turn runs
-first : (t : ℕ) (c : fire-lts.After-next (fire-cs t) (fire-at t) fire.Post fire-Inv-loop fire-μ-loop)
-    → let a = c .before .before .before .before .before .args in
-    Found (a .file .now) (a .ctx .now) (a .event) (a .place) (key-in (ofZ w32 (a .owner)) (ofZ w32 (a .line))) (cell-in (a .event) (ofZ w32 (a .amount)) (a .label .now))
+abbrev pub Inv-loop : lts.InvT-loop
+Inv-loop code who event place ctx label key cells₀ sets₀ run₀ trace₀ from₀ cells sets run trace from =
+    Remains code ctx label event place key from₀ (store cells₀ sets₀ run₀ trace₀) from (store cells sets run trace)
+
+-- there are at most 8 triggers
+abbrev pub μ-loop : lts.MeasureT-loop
+μ-loop code who event place ctx label key cells₀ sets₀ run₀ trace₀ from₀ cells sets run trace from = 8 - from
+
+-- the trigger that a turn runs, for any label of the amount
+first : (t : ℕ) (own : Label) (c : lts.After-next (fire-cs t) (fire-at t) Post Inv-loop μ-loop) → let a = c .before .before .before .before .before .before .args in
+    Found (a .code .now) (a .ctx .now) (a .event) (a .place) (key-in (a .key .now)) (cell-in (a .event) (a .key .now) own)
     (c .before .before .before .loop .from) (c .next .given .0 .0) (c .next .given .0 .1 .0) (c .next .given .0 .1 .1 .0)
-first t c =
-    let after-next-fitting = c .before .before in
-    let after-loop = after-next-fitting .before in
-    let a = after-loop .before .before .args in
-    found (a .file .now) (a .ctx .now) (a .event) (a .place) (key-in (ofZ w32 (a .owner)) (ofZ w32 (a .line))) (cell-in (a .event) (ofZ w32 (a .amount)) (a .label .now))
-    (count (a .file .now) 5 - after-loop .loop .from) (after-loop .loop .from) refl
-    (sym (after-next-fitting .next-fitting .ensures) ∙ c .next .given .1)
+first t own c =
+    let a = c .before .before .before .before .before .before .args in
+    found (a .code .now) (a .ctx .now) (a .event) (a .place) (key-in (a .key .now)) (cell-in (a .event) (a .key .now) own)
+    (length (script-of (a .code .now) .triggers) - c .before .before .before .loop .from) (c .before .before .before .loop .from) refl (sym (c .before .before .next-fitting .ensures) ∙ c .next .given .1)
 
--- what is done for the numbers' bits is done for the numbers
-as-lent : (t : ℕ) (start : fire-lts.Start (fire-cs t) (fire-at t) fire.Post fire-Inv-loop fire-μ-loop) {x x' : Store} {left used : ℕ} {r : Ran}
-    → let a = start .args in
-    DoesAside (Fires (a .file .now) (a .ctx .now) (a .t) (a .event) (a .place) (key-in (ofZ w32 (a .owner)) (ofZ w32 (a .line))) (cell-in (a .event) (ofZ w32 (a .amount)) (a .label .now))) x left used r x'
-    → DoesAside (Fires (a .file .now) (a .ctx .now) (a .t) (a .event) (a .place) (key-of (a .owner) (a .line)) (record { val = cell (a .event) (a .amount); lab = a .label .now })) x left used r x'
-as-lent t start d =
-    let a = start .args in
-    fires-as (a .file .now) (a .ctx .now) (a .t) (a .event) (a .place) (a .label .now) (toZ-ofZ (start .fits .owner)) (toZ-ofZ (start .fits .line)) (toZ-ofZ (start .fits .amount)) d
+pub loop-holds : (t : ℕ) → lts.Need-loop-holds (fire-cs t) (fire-at t) Post Inv-loop μ-loop
+loop-holds t c = record { keeps = keeps-itself (c .before .before .pre .1 .0 .room); ends = λ own vars l d. d }
 
-pub fire-loop-holds : (t : ℕ) → fire-lts.Need-loop-holds (fire-cs t) (fire-at t) fire.Post fire-Inv-loop fire-μ-loop
-fire-loop-holds t c =
-    let lent = c .before .pre .1 .0 in
-    record { ends = λ d. d; same = refl; fits = lent .room; within = omega arith }
+pub next-fitting-requires : (t : ℕ) → lts.Need-next-fitting-requires (fire-cs t) (fire-at t) Post Inv-loop μ-loop
+next-fitting-requires t c κs =
+    let s = c .before .before .before in
+    (s .pre .1 .0 .runnable, s .pre .1 .1)
 
-pub fire-next-fitting-requires : (t : ℕ) → fire-lts.Need-next-fitting-requires (fire-cs t) (fire-at t) fire.Post fire-Inv-loop fire-μ-loop
-fire-next-fitting-requires t c κs =
-    let start = c .before .before in
-    let lent = start .pre .1 .0 in
-    (lent .ready .runnable, start .pre .1 .1)
+pub returns : (t : ℕ) → lts.Need-returns (fire-cs t) (fire-at t) Post Inv-loop μ-loop
+returns t c = λ own vars l.
+    let a = c .before .before .before .before .before .before .args in
+    let remains = c .before .before .before .loop .inv in
+    remains .ends own vars l (none-left (a .code .now) (a .ctx .now) (a .event) (a .place) _ _ _ (remains .keeps .fits) (sym (c .before .before .next-fitting .ensures) ∙ c .enum-told .given .1))
 
-pub fire-enum-known-next : (t : ℕ) → fire-lts.Need-enum-known-next (fire-cs t) (fire-at t) fire.Post fire-Inv-loop fire-μ-loop
-fire-enum-known-next t c = c .match .keys1
+pub add-from : (t : ℕ) → lts.Need-add-from (fire-cs t) (fire-at t) Post Inv-loop μ-loop
+add-from t c = omega (arith, first t [] (c .before) .below, c .before .before .before .before .before .before .before .pre .1 .0 .runnable .sound .few-triggers)
 
-pub fire-enum-told : (t : ℕ) → fire-lts.Need-enum-told (fire-cs t) (fire-at t) fire.Post fire-Inv-loop fire-μ-loop
-fire-enum-told t c = c .match .keys2
+pub exec-requires : (t : ℕ) → lts.Need-exec-requires (fire-cs t) (fire-at t) Post Inv-loop μ-loop
+exec-requires t c κs =
+    let s = c .before .before .before .before .before .before .before .before .before .before .before .before .before .before .before .before .before .before in
+    let a = s .args in
+    let lent = s .pre .1 .0 in
+    let remains = c .before .before .before .before .before .before .before .before .before .before .before .before .before .before .before .loop .inv in
+    let runs = found-runs (a .code .now) (a .ctx .now) (a .event) (a .place) _ _ (lent .runnable) (first t [] (c .before .before .before .before .before .before .before .before .before .before .before .before)) in
+    (omega (arith, s .pre .0, weight-kept (a .code .now) (c .before .before .before .before .before .before .before .before .before .before .before .before .next .given .0 .1 .1 .0) (remains .keeps)), (lent-on lent (remains .keeps), runs .0, runs .1))
 
-pub fire-finished-requires : (t : ℕ) → fire-lts.Need-finished-requires (fire-cs t) (fire-at t) fire.Post fire-Inv-loop fire-μ-loop
-fire-finished-requires t c κs = tt
+pub loop-less : (t : ℕ) → lts.Need-loop-less (fire-cs t) (fire-at t) Post Inv-loop μ-loop
+loop-less t c =
+    let this = first t [] (c .before .before .before .before .before .before .before .before .before .before .before .before .before .before .before .before .before) in
+    omega (arith, this .from, this .below, c .before .before .before .before .before .before .before .before .before .before .before .before .before .before .before .before .before .before .before .before .before .before .before .pre .1 .0 .runnable .sound .few-triggers)
 
-pub fire-same-length : (t : ℕ) → fire-lts.Need-same-length (fire-cs t) (fire-at t) fire.Post fire-Inv-loop fire-μ-loop
-fire-same-length t c = c .before .before .before .before .loop .inv .same
+pub loop-again : (t : ℕ) → lts.Need-loop-again (fire-cs t) (fire-at t) Post Inv-loop μ-loop
+loop-again t c =
+    let a = c .before .before .before .before .before .before .before .before .before .before .before .before .before .before .before .before .before .before .before .before .before .before .before .args in
+    let remains = c .before .before .before .before .before .before .before .before .before .before .before .before .before .before .before .before .before .before .before .before .loop .inv in
+    let ran = c .before .before .before .before .exec .ensures in
+    record {
+      keeps = keeps-both (remains .keeps) (does-keeps ran);
+      ends = λ own vars l d. remains .ends own vars l (found-goes (a .code .now) (a .ctx .now) (a .event) (a .place) _ _ (first t own (c .before .before .before .before .before .before .before .before .before .before .before .before .before .before .before .before .before)) (omega arith)
+          (variables-are (a .ctx .now) own (a .event) (a .key .now) l (c .before .before .before .before .before .before .before .before .before .before .before .before .set-variables .ensures)) ran (c .enum-told2 .given .1) d);
+    }
 
-pub fire-returns : (t : ℕ) → fire-lts.Need-returns (fire-cs t) (fire-at t) fire.Post fire-Inv-loop fire-μ-loop
-fire-returns t c =
-    let after-enum-told = c .before in
-    let after-next-fitting = after-enum-told .before .before in
-    let after-loop = after-next-fitting .before in
-    as-lent t (after-loop .before .before)
-    (remains-none _ _ _ _ _ _ (after-loop .loop .inv) (sym (after-next-fitting .next-fitting .ensures) ∙ after-enum-told .enum-told .given .1) (c .finished .ensures))
+pub same-length-2 : (t : ℕ) → lts.Need-same-length-2 (fire-cs t) (fire-at t) Post Inv-loop μ-loop
+same-length-2 t c = does-keeps (c .before .before .before .before .exec .ensures) .same ∙ c .before .before .before .before .before .before .before .before .before .before .before .before .before .before .before .before .before .before .before .before .loop .inv .keeps .same
 
-pub fire-variables-requires : (t : ℕ) → fire-lts.Need-variables-requires (fire-cs t) (fire-at t) fire.Post fire-Inv-loop fire-μ-loop
-fire-variables-requires t c κs = tt
-
-pub fire-add-above : (t : ℕ) → fire-lts.Need-add-above (fire-cs t) (fire-at t) fire.Post fire-Inv-loop fire-μ-loop
-fire-add-above t c =
-    let after-next = c .before .before .before .before in
-    let lent = after-next .before .before .before .before .before .pre .1 .0 in
-    omega (arith, first t after-next .below, lent .ready .runnable .few-triggers)
-
-pub fire-exec-requires : (t : ℕ) → fire-lts.Need-exec-requires (fire-cs t) (fire-at t) fire.Post fire-Inv-loop fire-μ-loop
-fire-exec-requires t c κs =
-    let after-next = c .before .before .before .before .before .before .before .before .before .before .before .before in
-    let after-loop = after-next .before .before .before in
-    let start = after-loop .before .before in
-    let a = start .args in
-    let lent = start .pre .1 .0 in
-    let remains = after-loop .loop .inv in
-    let this = first t after-next in
-    (omega (arith, start .pre .0, remains .within, weight-most (a .file .now) (after-next .next .given .0 .1 .1 .0) (after-loop .loop .rest)), (lent-after lent (remains .same) (remains .fits), trigger-runs (a .file .now) _ (lent .ready .runnable) (this .below) (this .user-is) (this .body-is)))
-
-pub fire-enum-told-2 : (t : ℕ) → fire-lts.Need-enum-told-2 (fire-cs t) (fire-at t) fire.Post fire-Inv-loop fire-μ-loop
-fire-enum-told-2 t c = c .match2 .keys1
-
-pub fire-enum-told-3 : (t : ℕ) → fire-lts.Need-enum-told-3 (fire-cs t) (fire-at t) fire.Post fire-Inv-loop fire-μ-loop
-fire-enum-told-3 t c = c .match2 .keys2
-
-pub fire-passed-requires : (t : ℕ) → fire-lts.Need-passed-requires (fire-cs t) (fire-at t) fire.Post fire-Inv-loop fire-μ-loop
-fire-passed-requires t c κs = tt
-
-pub fire-same-length-2 : (t : ℕ) → fire-lts.Need-same-length-2 (fire-cs t) (fire-at t) fire.Post fire-Inv-loop fire-μ-loop
-fire-same-length-2 t c =
-    let after-exec = c .before .before .before .before .before in
-    let after-loop = after-exec .before .before .before .before .before .before .before .before .before .before .before .before .before .before .before .before in
-    after-exec .exec .kept .1 .1 .1 .1 .1 .1 .1 .1 .1 .1 .1 .1 .1 .1 .1 .1 .0 ∙ after-loop .loop .inv .same
-
-pub fire-returns-2 : (t : ℕ) → fire-lts.Need-returns-2 (fire-cs t) (fire-at t) fire.Post fire-Inv-loop fire-μ-loop
-fire-returns-2 t c =
-    let after-enum-told3 = c .before in
-    let after-exec = after-enum-told3 .before .before .before .before in
-    let after-variables = after-exec .before .before .before .before .before .before .before .before .before .before .before in
-    let after-next = after-variables .before .before in
-    let after-loop = after-next .before .before .before in
-    as-lent t (after-loop .before .before) (answers-aside (c .passed .ensures)
-    (remains-stops _ _ _ _ _ _ (after-loop .loop .inv) (first t after-next) _ (after-variables .variables .ensures) (after-exec .exec .ensures) (omega arith) (after-enum-told3 .enum-told3 .given .1)))
-
-pub fire-loop-less : (t : ℕ) → fire-lts.Need-loop-less (fire-cs t) (fire-at t) fire.Post fire-Inv-loop fire-μ-loop
-fire-loop-less t c =
-    let after-next = c .before .before .before .before .before .before .before .before .before .before .before .before .before .before .before .before .before in
-    let lent = after-next .before .before .before .before .before .pre .1 .0 in
-    let this = first t after-next in
-    omega (arith, this .from, this .below, lent .ready .runnable .few-triggers)
-
-pub fire-loop-again : (t : ℕ) → fire-lts.Need-loop-again (fire-cs t) (fire-at t) fire.Post fire-Inv-loop fire-μ-loop
-fire-loop-again t c =
-    let after-exec = c .before .before .before .before in
-    let after-variables = after-exec .before .before .before .before .before .before .before .before .before .before .before in
-    let after-next = after-variables .before .before in
-    let after-loop = after-next .before .before .before in
-    remains-turns _ _ _ _ _ _ (after-loop .loop .inv) (first t after-next) _ (after-variables .variables .ensures) (after-exec .exec .ensures) (omega arith) (c .enum-told2 .given .1)
+pub returns-2 : (t : ℕ) → lts.Need-returns-2 (fire-cs t) (fire-at t) Post Inv-loop μ-loop
+returns-2 t c = λ own vars l.
+    let a = c .before .before .before .before .before .before .before .before .before .before .before .before .before .before .before .before .before .before .before .before .before .before .before .args in
+    let told = c .enum-told3 .given .1 in
+    answers (sym told) (c .before .before .before .before .before .before .before .before .before .before .before .before .before .before .before .before .before .before .before .before .loop .inv .ends own vars l (found-stops (a .code .now) (a .ctx .now) (a .event) (a .place) _ _ (first t own (c .before .before .before .before .before .before .before .before .before .before .before .before .before .before .before .before .before)) (omega arith)
+    (variables-are (a .ctx .now) own (a .event) (a .key .now) l (c .before .before .before .before .before .before .before .before .before .before .before .before .set-variables .ensures)) (c .before .before .before .before .exec .ensures) told))

@@ -1,66 +1,40 @@
 -- The needs of `post`.
-use native.Mathlib.Omega.{arith}
-use mathlib.Core.Path.{refl}
+use mathlib.Core.Path.{_∙_}
 use Prim.Native.Nat.{ℕ}
-use mir.Syntax.{w32}
-use mir.Facts.{toZ-ofZ}
-use Rattle.commands.proofs.Steps.{answers}
-use Rattle.commands.proofs.Firing.{fires-as}
-use Rattle.commands.proofs.Lents.{lent-after}
-use Rattle.commands.proofs.post.Reads as post
-use Rattle.commands.proofs.+branch+enter+exec+fire+post+repeat.Lts-post as post-lts
+use native.Mathlib.Omega.{arith}
+use Rattle.machine.specs.Store.{vars-of}
+use Rattle.commands.proofs.Steps.{does-keeps}
+use Rattle.commands.proofs.post.Reads.{Post}
+use Rattle.commands.proofs.+branch+enter+exec+fire+post+repeat.Lts-post as lts
 use Rattle.commands.proofs.+branch+enter+exec+fire+post+repeat.Proof.Common.{post-at, post-cs}
 
-pub post-post-requires : (t : ℕ) → post-lts.Need-post-requires (post-cs t) (post-at t) post.Post
-post-post-requires t c κs =
-    let start = c .before .before .before .before .before .before .before in
-    let lent = start .pre .1 .0 in
-    let mine = start .pre .1 .1 in
-    (lent .ready, (mine .0, mine .1, mine .2, mine .3, mine .4))
+pub post-requires : (t : ℕ) → lts.Need-post-requires (post-cs t) (post-at t) Post
+post-requires t c κs =
+    let s = c .before .before .before .before .before .before .before .before .before .before in
+    let mine = s .pre .1 .0 in
+    ((mine .0 .runnable, mine .1, mine .2), s .pre .1 .1)
 
-pub post-enum-known-posted : (t : ℕ) → post-lts.Need-enum-known-posted (post-cs t) (post-at t) post.Post
-post-enum-known-posted t c = c .match .keys1
+pub returns : (t : ℕ) → lts.Need-returns (post-cs t) (post-at t) Post
+returns t c =
+    let s = c .before .before .before .before .before .before .before .before .before .before .before .before .before in
+    c .before .before .post .ensures .stops (c .enum-told .given .1) (s .args .trace .now) (s .pre .1 .0 .0 .room)
 
-pub post-stopped-requires : (t : ℕ) → post-lts.Need-stopped-requires (post-cs t) (post-at t) post.Post
-post-stopped-requires t c κs = tt
+pub fire-requires : (t : ℕ) → lts.Need-fire-requires (post-cs t) (post-at t) Post
+fire-requires t c κs =
+    let s = c .before .before .before .before .before .before .before .before .before .before .before .before .before .before .before .before .before .before .before .before .before in
+    let lent = s .pre .1 .0 .0 in
+    let writes = c .before .before .before .before .before .before .before .before .before .before .post .ensures in
+    (omega (arith, s .pre .0, writes .within), (record { runnable = lent .runnable; public-is = writes .public-same ∙ lent .public-is; short = lent .short; room = omega (arith, lent .room, writes .used-same) }, writes .inside _ (c .before .before .before .before .before .before .before .before .posted .given .1)))
 
-pub post-enum-known-posted-2 : (t : ℕ) → post-lts.Need-enum-known-posted-2 (post-cs t) (post-at t) post.Post
-post-enum-known-posted-2 t c = c .match .keys2
+pub same-length : (t : ℕ) → lts.Need-same-length (post-cs t) (post-at t) Post
+same-length t c =
+    let a = c .before .before .before .before .before .before .before .before .before .before .before .before .before .before .before .before .before .before .before .before .before .before .before .before .args in
+    let writes = c .before .before .before .before .before .before .before .before .before .before .before .before .before .post .ensures in
+    does-keeps (c .before .before .fire .ensures (writes .own) (vars-of (a .vars .now) (a .tags .now)) (writes .label-is _ (c .before .before .before .before .before .before .before .before .before .before .before .posted .given .1))) .same
 
-pub post-fire-requires : (t : ℕ) → post-lts.Need-fire-requires (post-cs t) (post-at t) post.Post
-post-fire-requires t c κs =
-    let after-posted2 = c .before .before .before .before .before .before .before .before .before .before .before .before in
-    let after-post = after-posted2 .before .before .before .before in
-    let start = after-post .before .before .before .before .before .before .before .before in
-    let lent = start .pre .1 .0 in
-    (omega (arith, start .pre .0, after-post .post .ensures .within), (lent-after lent refl (lent .room), after-post .post .ensures .inside _ (after-posted2 .posted2 .given .1)))
-
-pub post-returns : (t : ℕ) → post-lts.Need-returns (post-cs t) (post-at t) post.Post
-post-returns t c =
-    let after-posted = c .before .before in
-    let after-post = after-posted .before .before .before .before in
-    let start = after-post .before .before .before .before .before .before .before .before in
-    let a = start .args in
-    let lent = start .pre .1 .0 in
-    answers (c .stopped .ensures) (after-post .post .ensures .stops _ _ (after-posted .posted .given .1) (a .above) (a .read .now) (a .trace .now) (a .used) (lent .room))
-
-pub post-same-length : (t : ℕ) → post-lts.Need-same-length (post-cs t) (post-at t) post.Post
-post-same-length t c =
-    let after-fire = c .before .before in
-    after-fire .fire .kept .1 .1 .1 .1 .1 .1 .1 .1 .1 .1 .1 .1 .1 .1 .1 .1 .1 .1 .0
-
-pub post-returns-2 : (t : ℕ) → post-lts.Need-returns-2 (post-cs t) (post-at t) post.Post
-post-returns-2 t c =
-    let after-fire = c .before .before in
-    let after-struct-told3 = after-fire .before in
-    let after-struct-told2 = after-struct-told3 .before in
-    let after-struct-told = after-struct-told2 .before in
-    let after-posted2 = after-struct-told .before .before .before .before .before .before .before .before .before .before in
-    let after-post = after-posted2 .before .before .before .before in
-    let start = after-post .before .before .before .before .before .before .before .before in
-    let a = start .args in
-    let lent = start .pre .1 .0 in
-    let owner = toZ-ofZ {w = w32} {z = after-post .post .result .owner} (record { sfits = after-struct-told .struct-told .given .1 .1 .0 .1 }) in
-    let line = toZ-ofZ {w = w32} {z = after-post .post .result .line} (record { sfits = after-struct-told2 .struct-told2 .given .1 .1 .1 .0 .1 }) in
-    let amount = toZ-ofZ {w = w32} {z = after-post .post .result .amount} (record { sfits = after-struct-told3 .struct-told3 .given .1 .1 .1 .1 .0 .1 }) in
-    after-post .post .ensures .goes _ (after-posted2 .posted2 .given .1) (a .above) (a .read .now) (a .trace .now) (a .used) (lent .room) (fires-as (a .file .now) _ (a .above) (a .event) _ _ owner line amount (after-fire .fire .ensures))
+pub returns-2 : (t : ℕ) → lts.Need-returns-2 (post-cs t) (post-at t) Post
+returns-2 t c =
+    let s = c .before .before .before .before .before .before .before .before .before .before .before .before .before .before .before .before .before .before .before .before .before .before .before .before in
+    let writes = c .before .before .before .before .before .before .before .before .before .before .before .before .before .post .ensures in
+    let told = c .before .before .before .before .before .before .before .before .before .before .before .posted .given .1 in
+    writes .goes _ told (s .args .trace .now) (s .pre .1 .0 .0 .room) (c .before .before .fire .ensures (writes .own) _ (writes .label-is _ told))
