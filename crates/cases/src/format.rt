@@ -22,7 +22,7 @@ fn mixed_sets(digest: u32, sets: [[u64; 8]; 8]) -> u32 {
 fn digest_of_rights(file: &[u8]) -> u32 {
     match reader::inspect(file) {
         book::Verdict::Accepted => {
-            let mut code = [0u8; 17366];
+            let mut code = [0u8; machine::SCRIPT_BYTES];
             start::copy_script(file, &mut code);
             let public = rights::public_set(&code);
             let read = rights::right_sets(&code, 1);

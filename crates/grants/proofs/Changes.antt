@@ -22,7 +22,7 @@ use Rattle.monitor.specs.Run.{Rights, Rec, changed, M, _>>_, Test, plainly, ins
 use Rattle.monitor.specs.Syntax.{cmd-of}
 use Rattle.monitor.specs.Rules.{region-places, granted, revoked, command}
 use Rattle.machine.specs.Script.{script-of, Runnable, Node}
-use Rattle.machine.specs.Store.{row-at, present-row, public-row, read-row, write-row, label-row, users-rows, Replaces, cells-held, rights-in, used-of, Store, store, state, Lent}
+use Rattle.machine.specs.Store.{row-at, present-row, public-row, read-row, write-row, label-row, users-rows, Replaces, cells-held, rights-in, used-of, run-numbers, Store, store, state, Lent}
 use Rattle.machine.specs.Promises.{Stops, Does, Commands, Who}
 use Rattle.machine.specs.declared.Outcome.{Outcome}
 use Rattle.machine.specs.declared.Outcome.the-variants.{Done, Stopped}
@@ -69,7 +69,7 @@ module _ (sets sets' : List (List ℕ)) {users : ℕ → Label} (reads : Bool) (
   low : (i : ℕ) → i < 2 → i < first reads
   low i h = elim reads as (λ b. i < first b) [ true ↦ h | false ↦ omega arith ]
 
-  high : (i : ℕ) → 18 ≤ i → first reads + 8 ≤ i
+  high : (i : ℕ) → label-row ≤ i → first reads + 8 ≤ i
   high i h = elim reads as (λ b. first b + 8 ≤ i) [ true ↦ omega arith | false ↦ h ]
 
   cells-stay : (amounts : List ℤ) → cells-held amounts sets ≡ cells-held amounts sets'
@@ -191,7 +191,7 @@ module _ (code : List ℕ) (ctx : Label) (n : ℕ) where
         change-full f s = allowed (tell-full n change-record rights-after (g .0 .room) f s)
 
         -- the right that the node names, and what the code has done to its sets and to the part of the trace that it is lent
-        pub change-made : (reads : Bool) → eqb (node .b) 1 ≡ reads → length (x .run) ≡ 4 → used-of (x .run) + 8 ≤ length (x .trace) → {sets : List (List ℕ)} {part : List ℕ}
+        pub change-made : (reads : Bool) → eqb (node .b) 1 ≡ reads → length (x .run) ≡ run-numbers → used-of (x .run) + 8 ≤ length (x .trace) → {sets : List (List ℕ)} {part : List ℕ}
             → Replaces (x .sets) (first reads) (one-altered (users-rows (x .sets) (first reads)) (byte code (16 * n + 1)) (eqb (byte code (16 * n)) 24)
             (region-places (script-of code) (le16 code (16 * n + 2)))) sets
             → part ≡ kind-of (eqb (byte code (16 * n)) 24) (cond reads 1 2) ∷ byte code (16 * n + 1) ∷ le16 code (16 * n + 2) ∷ 0

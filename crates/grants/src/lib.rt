@@ -20,7 +20,7 @@ ghost use Rattle.monitor.specs.Run.{update};
 ghost use Rattle.monitor.specs.Rules.{region-places};
 ghost use Rattle.monitor.specs.Call.{rows};
 ghost use Rattle.machine.specs.Script.{script-of, Runnable, Node};
-ghost use Rattle.machine.specs.Store.{users-rows, Replaces, store, Lent};
+ghost use Rattle.machine.specs.Store.{label-row, users-rows, Replaces, store, Lent};
 ghost use Rattle.machine.specs.Promises.{Does, Commands, who-of};
 ghost use Rattle.grants.specs.Rights.{altered, kind-of};
 
@@ -69,7 +69,7 @@ fn record_kind(kind: u8, right: u8) -> u8
 // Grants or revokes as the node at `at` says, in the sets of one right from row `first` on, and writes the record of it at the start of `rest`;
 // `right` is 1 read, 2 write.
 fn alter(code: &Script, at: usize, right: u8, first: usize, sets: &mut Sets, rest: &mut [u8])
-    requires { ⌜ Runnable (now code) × (at + 16 ≤ length (now code)) × (first + 8 ≤ 18) ⌝ }
+    requires { ⌜ Runnable (now code) × (at + 16 ≤ length (now code)) × (first + 8 ≤ label-row) ⌝ }
     requires { ⌜ (byte (now code) (at + 1) < 8) × (le16 (now code) (at + 2) < length (script-of (now code) .regions)) ⌝ }
     requires { ⌜ (right ≤ 2) × (8 ≤ length (now rest)) ⌝ }
     ensures { λ _. ⌜ Replaces (now (sets .entry)) first (update (users-rows (now (sets .entry)) first) (byte (now (code .entry)) (at + 1))

@@ -19,7 +19,7 @@ use Rattle.monitor.specs.Labelled.{Label}
 use Rattle.monitor.specs.Syntax.{Cmd, cmd-of}
 use Rattle.monitor.specs.Rules.{eval, exec}
 use Rattle.monitor.specs.Rules as rules
-use Rattle.machine.specs.Script.{held-count, script-of, Sound, Runnable, Node}
+use Rattle.machine.specs.Script.{prices-start, held-count, script-of, Sound, Runnable, Node}
 use Rattle.machine.specs.Promises.{env, Commands, Who}
 
 -- what a node does, once it is known which command it is
@@ -38,7 +38,7 @@ pub record Read (code : List ℕ) (at : ℕ) (x : NodeRecord) : Type 0 where
   pub d : le16 code (at + 8) ≡ x .d
   pub k : signed32 (le32 code (at + 10)) ≡ x .k
   pub end : at + 16 ≤ length code
-  pub short : at + 16 ≤ 16384
+  pub short : at + 16 ≤ prices-start
 
 -- a field that names a child: a lower number, and a node of that sort
 pub record Child (sort : ℕ) (s : Book) (n v : ℕ) : Type 0 where

@@ -15,7 +15,7 @@ use Rattle.book.specs.Refusals.{no-region, is-command, no-program, program-fits
 use Rattle.book.proofs.Chains.{both}
 use Rattle.book.proofs.Records.{length-records, record-at}
 use Rattle.monitor.specs.Rules.{trigger-at}
-use Rattle.machine.specs.Script.{regions-start, programs-start, triggers-start, held-count, script-of, Runnable, Node}
+use Rattle.machine.specs.Script.{regions-start, programs-start, triggers-start, counts-start, held-count, script-of, Runnable, Node}
 
 -- the counts that the code reads
 pub programs-count : (code : List ℕ) → length (script-of code .programs) ≡ held-count code 3
@@ -65,7 +65,7 @@ pub record TriggerRead (code : List ℕ) (at : ℕ) (x : TriggerRecord) : Type 0
   pub user : byte code (at + 2) ≡ x .user
   pub body : le16 code (at + 4) ≡ x .body
   pub end : at + 8 ≤ length code
-  pub short : at + 8 ≤ 17356
+  pub short : at + 8 ≤ counts-start
   pub region-exists : x .region < length (script-of code .regions)
   pub user-below : x .user < 8
   pub body-command : Node command (script-of code) (x .body)
@@ -109,7 +109,7 @@ pub record ProgramRead (code : List ℕ) (at : ℕ) (x : ProgramRecord) : Type 0
   pub user : byte code at ≡ x .user
   pub root : le16 code (at + 2) ≡ x .root
   pub end : at + 4 ≤ length code
-  pub short : at + 4 ≤ 17356
+  pub short : at + 4 ≤ counts-start
   pub user-below : x .user < 8
   pub root-command : Node command (script-of code) (x .root)
 

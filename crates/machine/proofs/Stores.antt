@@ -19,7 +19,7 @@ use Rattle.book.proofs.Tabulate.{length-tabulate, tabulate-at}
 use Rattle.monitor.specs.Labelled.{Label}
 use Rattle.monitor.specs.Run.{update}
 use Rattle.monitor.specs.Call.{rows}
-use Rattle.machine.specs.Store.{row-at, present-row, public-row, read-row, write-row, label-row, users-rows, Replaces, cells-held, rights-in, vars-of, cell}
+use Rattle.machine.specs.Store.{row-at, present-row, public-row, read-row, write-row, label-row, set-rows, users-rows, Replaces, cells-held, rights-in, vars-of, cell}
 
 -- the update of f at p is what holds a at p and else what f holds
 pub updated : {A : Type 0} {f g : ℕ → A} {p : ℕ} {a : A} → g p ≡ a → ((q : ℕ) → (q ≡ p → ⊥) → g q ≡ f q) → g ≡ update f p a
@@ -180,14 +180,14 @@ module _ (presence : List ℕ) (q : ℕ) (h : q < 512) (l : length presence ≡ 
       go (no e) = same-word (marked put) presence j (getD-set-other presence (q / 64) (j / 64) _ 0 e)
 
 -- the write of a cell: its amount, its presence and its label, each a store at one index
-module _ (sets : List (List ℕ)) (q event : ℕ) (label : Label) (h : q < 512) (l : length (row-at sets present-row) ≡ 8) (long : length sets ≡ 530) where
+module _ (sets : List (List ℕ)) (q event : ℕ) (label : Label) (h : q < 512) (l : length (row-at sets present-row) ≡ 8) (long : length sets ≡ set-rows) where
   abbrev words : List ℕ
   words = marked (row-at sets present-row) q h l (eqb event 1)
 
   abbrev pub written : List (List ℕ)
   written = set (set sets present-row words) (label-row + q) label
 
-  all-rows : length (set sets present-row words) ≡ 530
+  all-rows : length (set sets present-row words) ≡ set-rows
   all-rows = length-set sets present-row words ∙ long
 
   present-is : row-at written present-row ≡ words

@@ -14,30 +14,30 @@ use Rattle.book.specs.Refusals.{node-at, bad-region, bad-right, bad-node, bad-p
 
 -- the prices of the 27 kinds, four bytes each
 abbrev pub prices-start : ℕ
-prices-start = 16384
+prices-start = 16 * 1024
 
 abbrev pub regions-start : ℕ
-regions-start = 16492
+regions-start = prices-start + 4 * 27
 
 abbrev pub rights-start : ℕ
-rights-start = 17004
+rights-start = regions-start + 8 * 64
 
 abbrev pub programs-start : ℕ
-programs-start = 17260
+programs-start = rights-start + 4 * 64
 
 abbrev pub triggers-start : ℕ
-triggers-start = 17292
+triggers-start = programs-start + 4 * 8
 
 -- the number of records of each, two bytes: 0 regions, 1 rights, 2 nodes, 3 programs, 4 triggers
 abbrev pub counts-start : ℕ
-counts-start = 17356
+counts-start = triggers-start + 8 * 8
 
 abbrev pub held-count : List ℕ → ℕ → ℕ
 held-count s i = le16 s (counts-start + 2 * i)
 
 -- the bytes of all
 abbrev pub script-bytes : ℕ
-script-bytes = 17366
+script-bytes = counts-start + 2 * 5
 
 -- ---- what they hold
 

@@ -30,11 +30,15 @@ abbrev pub read-row : ℕ
 read-row = 2
 
 abbrev pub write-row : ℕ
-write-row = 10
+write-row = read-row + 8
 
 -- the label of the first cell
 abbrev pub label-row : ℕ
-label-row = 18
+label-row = write-row + 8
+
+-- how many there are
+abbrev pub set-rows : ℕ
+set-rows = label-row + 512
 
 -- the sets of the eight users from row `first` on; there are no other users
 unfoldable pub users-rows : List (List ℕ) → ℕ → ℕ → Label
@@ -74,6 +78,10 @@ number-of run = getD run 2 0
 
 abbrev pub node-of : List ℕ → ℕ
 node-of run = getD run 3 0
+
+-- how many there are
+abbrev pub run-numbers : ℕ
+run-numbers = 4
 
 -- ---- all of them
 

@@ -9,7 +9,7 @@ ghost use Rattle.book.specs.Refusals.{no-region};
 ghost use Rattle.monitor.specs.Rules.{region-places};
 ghost use Rattle.monitor.specs.Call.{rows};
 ghost use Rattle.machine.specs.Script.{script-of, Runnable};
-ghost use Rattle.machine.specs.Store.{users-rows, Replaces};
+ghost use Rattle.machine.specs.Store.{label-row, users-rows, Replaces};
 ghost use Rattle.machine.specs.Promises.{Stops, Pays};
 
 // The value of an expression, or none where the run stopped on the way to it.
@@ -40,32 +40,34 @@ pub const USER: usize = 0;
 pub const ABOVE: usize = 1;
 
 // The book that is run, without its cells: each section at a place of its own, with room for its most records. The nodes are at 0.
-pub type Script = [u8; 17366];
+pub type Script = [u8; SCRIPT_BYTES];
 
-// What it costs to enter a node of each kind, four bytes each.
-pub const PRICES: usize = 16384;
+// What it costs to enter a node of each kind, four bytes each. It stands behind the nodes.
+pub const PRICES: usize = 16 * 1024;
 
-// Where the other sections start.
-pub const REGIONS: usize = 16492;
+// Where the other sections start: each behind the one before.
+pub const REGIONS: usize = PRICES + 4 * 27;
 
-pub const RIGHTS: usize = 17004;
+pub const RIGHTS: usize = REGIONS + 8 * 64;
 
-pub const PROGRAMS: usize = 17260;
+pub const PROGRAMS: usize = RIGHTS + 4 * 64;
 
-pub const TRIGGERS: usize = 17292;
+pub const TRIGGERS: usize = PROGRAMS + 4 * 8;
 
 // How many records the sections have, two bytes each: regions, rights, nodes, programs, triggers.
-pub const COUNTS: usize = 17356;
+pub const COUNTS: usize = TRIGGERS + 8 * 8;
 
-pub const RIGHTS_COUNT: usize = 17358;
+pub const RIGHTS_COUNT: usize = COUNTS + 2;
 
-pub const PROGRAMS_COUNT: usize = 17362;
+pub const PROGRAMS_COUNT: usize = COUNTS + 6;
 
-pub const TRIGGERS_COUNT: usize = 17364;
+pub const TRIGGERS_COUNT: usize = COUNTS + 8;
+
+pub const SCRIPT_BYTES: usize = COUNTS + 10;
 
 // All sets of a run, each a row: the places that are present, those that are public, eight users' read sets and write sets, and the labels of
 // the 512 cells. The labels are last, so that a place that is none would not find another set.
-pub type Sets = [[u64; 8]; 530];
+pub type Sets = [[u64; 8]; SET_ROWS];
 
 // The rows of sets; those of rights and labels are the first of theirs.
 pub const PRESENT: usize = 0;
@@ -74,12 +76,14 @@ pub const PUBLIC: usize = 1;
 
 pub const READ: usize = 2;
 
-pub const WRITE: usize = 10;
+pub const WRITE: usize = READ + 8;
 
-pub const LABELS: usize = 18;
+pub const LABELS: usize = WRITE + 8;
+
+pub const SET_ROWS: usize = LABELS + 512;
 
 // The numbers of a run.
-pub type Run = [u32; 4];
+pub type Run = [u32; RUN_NUMBERS];
 
 // What is left of the budget, and the trace bytes written so far.
 pub const LEFT: usize = 0;
@@ -90,6 +94,8 @@ pub const USED: usize = 1;
 pub const NUMBER: usize = 2;
 
 pub const NODE: usize = 3;
+
+pub const RUN_NUMBERS: usize = 4;
 
 // Stops the run with a number on node `n`. The slice tells the proof how long the array is.
 pub fn stop(run: &mut Run, number: u32, n: usize) -> Outcome
@@ -152,7 +158,7 @@ pub fn region_holds(code: &Script, region: usize, place: usize) -> bool
 
 // The sets of the eight users from row `first` on.
 pub fn users_sets(sets: &Sets, first: usize) -> [[u64; 8]; 8]
-    requires { ⌜ first + 8 ≤ 18 ⌝ }
+    requires { ⌜ first + 8 ≤ label-row ⌝ }
     ensures { λ r. ⌜ rows r ≡ users-rows (now (sets .entry)) first ⌝ }
 {
     let none = [0u64; 8];
@@ -167,7 +173,7 @@ pub fn users_sets(sets: &Sets, first: usize) -> [[u64; 8]; 8]
 
 // Makes these the sets of the eight users from row `first` on; the other rows stay.
 pub fn store_users(sets: &mut Sets, first: usize, users: [[u64; 8]; 8])
-    requires { ⌜ first + 8 ≤ 18 ⌝ }
+    requires { ⌜ first + 8 ≤ label-row ⌝ }
     ensures { λ _. ⌜ Replaces (now (sets .entry)) first (rows users) (now (sets .exit)) ⌝ }
 {
     let all: &[[u64; 8]] = sets;

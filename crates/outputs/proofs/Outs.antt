@@ -18,7 +18,7 @@ use Rattle.monitor.specs.Run.{Rights, State, said, M, _>>=_, _>>_, look, Test, 
 use Rattle.monitor.specs.Syntax.{out, cmd-of}
 use Rattle.monitor.specs.Rules.{command}
 use Rattle.machine.specs.Script.{script-of, Runnable, Node}
-use Rattle.machine.specs.Store.{row-at, public-row, read-row, cells-held, rights-in, used-of, Store, store, state, Lent}
+use Rattle.machine.specs.Store.{row-at, public-row, read-row, cells-held, rights-in, used-of, run-numbers, Store, store, state, Lent}
 use Rattle.machine.specs.Promises.{Stops, Gives, Evaluates, Does, Commands, Who}
 use Rattle.machine.specs.declared.Value.{Value}
 use Rattle.machine.specs.declared.Value.the-variants as value
@@ -100,7 +100,7 @@ module _ (code : List ℕ) (ctx : Label) (n : ℕ) where
         out-full f s = heard (tell-full n (said (node .p) z) (λ r. r) u f s)
 
         -- the part of the trace that the code has lent on
-        pub out-tells : {part : List ℕ} {bits : ℕ} → length run ≡ 4 → used-of run + 8 ≤ length (x .trace)
+        pub out-tells : {part : List ℕ} {bits : ℕ} → length run ≡ run-numbers → used-of run + 8 ≤ length (x .trace)
             → part ≡ 1 ∷ p ∷ 0 ∷ 0 ∷ four bits ++ drop 8 (take (length (x .trace) - used-of run) (drop (used-of run) (x .trace))) → bits ≡ bits32 z
             → Ends Done (store (x .amounts) (x .sets) (set run 1 (used-of run + 8))
             (take (used-of run) (x .trace) ++ (part ++ drop (length (x .trace) - used-of run) (drop (used-of run) (x .trace)))))

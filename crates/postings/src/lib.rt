@@ -14,7 +14,7 @@ ghost use Rattle.monitor.specs.Labelled.{Label};
 ghost use Rattle.monitor.specs.Rules.{key-place, in-table};
 ghost use Rattle.machine.specs.Store.{cells-held, rights-in, row-at, public-row, cell};
 ghost use Rattle.machine.specs.Promises.{Stops};
-ghost use Rattle.machine.specs.Writes.{key-of, Posts};
+ghost use Rattle.machine.specs.Writes.{key-of, key-in, cell-in, Posts};
 
 // Whether a key is one of a table's.
 fn is_key(owner: i32, line: i32) -> bool
@@ -95,15 +95,13 @@ fn stopped(run: &mut Run, number: u32, n: usize) -> Posted
 }
 
 // The write of a cell by put (event 1) or clear (event 2), up to the triggers: tests 23, 24 and 26 come before it.
-// `ctx` is context plus key label, and `label` that with the amount's label.
+// `key` has owner, line and amount; `ctx` is context plus key label, and `label` that with the amount's label.
 pub fn post(
     n: usize,
     user: usize,
     table: usize,
-    owner: i32,
-    line: i32,
     event: u8,
-    amount: i32,
+    key: &[i32; 3],
     ctx: &[u64; 8],
     label: &[u64; 8],
     cells: &mut [i32; 512],
@@ -112,9 +110,11 @@ pub fn post(
 ) -> Posted
     requires { ⌜ (n < 1024) × (user < 8) × (table < 8) ⌝ }
     ensures { λ r. ⌜ ((own : Label) → now (label .entry) ≡ union (now (ctx .entry)) own
-        → Posts n (now (ctx .entry)) user table (key-of owner line) (record { val = cell event amount; lab = own })
+        → Posts n (now (ctx .entry)) user table (key-in (now (key .entry))) (cell-in event (now (key .entry)) own)
         (now (cells .entry)) (now (sets .entry)) (now (run .entry)) r (now (cells .exit)) (now (sets .exit)) (now (run .exit))) ⌝ }
 {
+    let owner = key[0];
+    let line = key[1];
     let keyed = is_key(owner, line);
     if !keyed {
         return stopped(run, 23, n);
@@ -130,6 +130,6 @@ pub fn post(
         return stopped(run, 26, n);
     }
     let new = *label;
-    store_cell(cells, sets, place, event, amount, new);
+    store_cell(cells, sets, place, event, key[2], new);
     Posted::At(place)
 }

@@ -18,7 +18,7 @@ use Rattle.monitor.specs.Rules.{Key, key, key-place, posting, within-label, tri
 use Rattle.machine.specs.Script.{script-of, Sound}
 use Rattle.machine.specs.Store.{cells-held, left-of, used-of, Store, store, cell}
 use Rattle.machine.specs.Promises.{Gives, Evaluates, Does, env, Commands, Who}
-use Rattle.machine.specs.Writes.{key-of, posted-end, Posts, key-in, Fires}
+use Rattle.machine.specs.Writes.{key-of, posted-end, Posts, key-in, cell-in, Fires}
 use Rattle.machine.specs.declared.Value.{Value}
 use Rattle.machine.specs.declared.Value.the-variants as value
 use Rattle.machine.specs.declared.Outcome.{Outcome}
@@ -170,12 +170,14 @@ module _ (code : List ℕ) (ctx : Label) (who : Who) (n event : ℕ) (kind : nod
         amount-stops e = lacks (omega (arith, d₁ .within, d₂ .within, d₃ .within)) used-is
             (λ trace u. to-amount trace (value-stops d₃ (λ fuel. writes code ctx who n event fuel x y) e (omega (arith, d₁ .used-same, d₂ .used-same))))
 
-        module _ {amount : ℤ} (e₃ : v₃ ≡ value.Known amount) {table : ℕ} (ep : table ≡ node-at (script-of code) n .p) where
+        -- the key and the amount as they are stored
+        module _ {amount : ℤ} (e₃ : v₃ ≡ value.Known amount) {table : ℕ} (ep : table ≡ node-at (script-of code) n .p)
+            (key : List ℤ) (ek : key-in key ≡ key-of owner line) (em : getD key 2 (pos 0) ≡ amount) where
           abbrev k : Key
-          k = key-of owner line
+          k = key-in key
 
           abbrev z : Lab Cell
-          z = labelled (cell event amount) (d₃ .label)
+          z = cell-in event key (d₃ .label)
 
           inner-is : l₂ ≡ union ctx (union (d₁ .label) (d₂ .label))
           inner-is = d₂ .joined e₂ ∙ rw (d₁ .joined e₁) (union-assoc ctx (d₁ .label) (d₂ .label))
@@ -185,7 +187,9 @@ module _ (code : List ℕ) (ctx : Label) (who : Who) (n event : ℕ) (kind : nod
               ≡ (posting true n l₂ (who .user) table k z >> Fires code l₂ (who .above) event (key-place table k) k z fuel)
           unfolding writes key lift lift2 write-cell within-label fire trigger-run
           posts-then fuel i =
-              posting true n (sym inner-is i) (who .user) (sym ep i) k z >> Fires code (sym inner-is i) (who .above) event (key-place (sym ep i) k) k z fuel
+              let c : Lab Cell = labelled (cell event (sym em i)) (d₃ .label) in
+              posting true n (sym inner-is i) (who .user) (sym ep i) (sym ek i) c
+              >> Fires code (sym inner-is i) (who .above) event (key-place (sym ep i) (sym ek i)) (sym ek i) c fuel
 
           to-write : (trace : List ℕ) {r : Outcome} {x' : Store}
               → Does (λ fuel. posting true n l₂ (who .user) table k z >> Fires code l₂ (who .above) event (key-place table k) k z fuel) vars (store cells sets run₃ trace) r vars x'
@@ -194,11 +198,11 @@ module _ (code : List ℕ) (ctx : Label) (who : Who) (n event : ℕ) (kind : nod
           to-write trace w = to-amount trace (value-goes d₃ (λ fuel. writes code ctx who n event fuel x y) amount e₃ (does-as posts-then w))
 
           -- the cell is written, or a test fails
-          pub ends : {r : Posted} {cells' : List ℤ} {sets' : List (List ℕ)} {run' : List ℕ} {key : List ℤ} → key-in key ≡ k → getD key 2 (pos 0) ≡ amount
-              → ((own : Label) → l₃ ≡ union l₂ own → Posts n l₂ (who .user) table k (labelled (cell event amount) own) cells sets run₃ r cells' sets' run')
+          pub ends : {r : Posted} {cells' : List ℤ} {sets' : List (List ℕ)} {run' : List ℕ}
+              → ((own : Label) → l₃ ≡ union l₂ own → Posts n l₂ (who .user) table k (cell-in event key own) cells sets run₃ r cells' sets' run')
               → Writing r cells' sets' run' l₂ l₃ key
           unfolding posted-end
-          ends {run' = run'} ek em p =
+          ends {run' = run'} p =
               let q = p (d₃ .label) (d₃ .joined e₃) in
               -- a trace that is full holds no more records
               let full : List ℕ = replicate (used-of run₃) 0 in
@@ -207,8 +211,7 @@ module _ (code : List ℕ) (ctx : Label) (who : Who) (n event : ℕ) (kind : nod
               record {
                 own = d₃ .label;
                 stops = λ e trace u. to-write trace (rw e at (then-stops (Fires code l₂ (who .above) event (key-place table k) k z) (q .does vars trace (omega (arith, used-is))) (rw e)));
-                goes = λ place e trace u f. to-write trace (then-goes (q .does vars trace (omega (arith, used-is))) (rw e)
-                    (does-as (λ fuel i. Fires code l₂ (who .above) event (sym (q .place-is place e) i) (sym ek i) (labelled (cell event (sym em i)) (d₃ .label)) fuel) f));
+                goes = λ place e trace u f. to-write trace (then-goes (q .does vars trace (omega (arith, used-is))) (rw e) (rw (q .place-is place e) at f));
                 label-is = λ place e. d₃ .joined e₃;
                 inside = λ place e. q .place-inside place e;
                 within = omega (arith, d₁ .within, d₂ .within, d₃ .within, d .within);

@@ -83,19 +83,7 @@ pub fn post(
     key[0] = owner;
     key[1] = line;
     key[2] = amount;
+    let user = who[machine::USER];
     let table = numbers::byte_at(code, at + 1);
-    postings::post(
-        n,
-        who[machine::USER],
-        table,
-        owner,
-        line,
-        event,
-        amount,
-        inner,
-        label,
-        cells,
-        sets,
-        run,
-    )
+    postings::post(n, user, table, event, key, inner, label, cells, sets, run)
 }

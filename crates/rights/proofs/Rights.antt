@@ -20,7 +20,7 @@ use Rattle.book.specs.Start.{rights-hold, right-set}
 use Rattle.book.proofs.Chains.{both}
 use Rattle.book.proofs.Records.{length-records, record-at}
 use Rattle.monitor.specs.Rules.{region-places}
-use Rattle.machine.specs.Script.{rights-start, held-count, script-of, Runnable}
+use Rattle.machine.specs.Script.{rights-start, programs-start, held-count, script-of, Runnable}
 
 -- ---- the set of some records
 
@@ -88,7 +88,7 @@ module _ (code : List ℕ) (v : Runnable code) (kind user : ℕ) where
     lt = omega (arith, g .upto)
 
     -- the record stands in the script
-    pub right-end : at + 4 ≤ 17260
+    pub right-end : at + 4 ≤ programs-start
     right-end = omega (arith, lt, v .sound .few-rights)
 
     right-read : r ≡ rights-format .read code at

@@ -1,13 +1,13 @@
 -- The start of a book's run in the arrays, and the end of its programs as the result of the call. Assumes nothing.
 use mathlib.Core.Path.{_≡_, sym, ap, _∙_}
-use mathlib.Core.List.{List, [], _∷_, _++_}
+use mathlib.Core.List.{List, [], _++_}
 use mathlib.Core.Bool.{true}
 use Prim.Native.Nat.{ℕ, _+_, _*_, _/_, _≤_, _<_}
 use native.Mathlib.Decide.{decLt}
 use native.Mathlib.Nat.{zero-add, sub-zero, le-refl}
 use native.Mathlib.Omega.{arith}
 use lib.IntN.{ℤ, pos}
-use lib.ListN.{length, getD, drop, List·getD-eq-default}
+use lib.ListN.{length, getD, set, drop, replicate, List·getD-eq-default}
 use Rattle.places.specs.Sets.{has}
 use Rattle.book.specs.Records.{Book}
 use Rattle.book.specs.Layout.{decode}
@@ -19,7 +19,7 @@ use Rattle.monitor.specs.Rules.{run}
 use Rattle.monitor.specs.Call.{Memory, cells-of, amounts-in, presence-in, labels-in, script, trace-bytes, start-cells, start-rights, start-state, run-book, memory-after, result-of, answered}
 use Rattle.monitor.proofs.Start.{start-beyond, start-label, script-start}
 use Rattle.machine.specs.Script.{script-of, Runnable}
-use Rattle.machine.specs.Store.{row-at, label-row, cells-held, rights-in, used-of, Store, store, state, with-records, Lent}
+use Rattle.machine.specs.Store.{row-at, label-row, cells-held, rights-in, used-of, run-numbers, Store, store, state, with-records, Lent}
 use Rattle.machine.specs.Promises.{ended, Does}
 use Rattle.machine.specs.declared.Outcome.{Outcome}
 use Rattle.machine.specs.declared.Outcome.the-variants.{Done, Stopped}
@@ -29,7 +29,7 @@ use Rattle.entry.specs.Entry.{lent, result, answer-of}
 
 -- the numbers of a run that begins
 abbrev pub begun : ℕ → List ℕ
-begun budget = budget ∷ 0 ∷ 0 ∷ 0 ∷ []
+begun budget = set (replicate run-numbers 0) 0 budget
 
 -- the end of a run as the result
 ended-result : (budget : ℕ) (m : Memory) (o : Outcome) (obstacle : Label) (records : List Rec) (vars : ℕ → Lab ℤ) (x : Store) → used-of (x .run) ≡ 8 * length records

@@ -59,12 +59,13 @@ fn started(
 {
     let mut cells = [0i32; 512];
     let present = loader::load_cells(file, &mut cells);
-    let mut code = [0u8; 17366];
+    let mut code = [0u8; machine::SCRIPT_BYTES];
     start::copy_script(file, &mut code);
     let none = [0u64; 8];
-    let mut sets = [none; 530];
+    let mut sets = [none; machine::SET_ROWS];
     start::start_sets(&code, present, &mut sets);
-    let mut run = [budget, 0, 0, 0];
+    let mut run = [0u32; machine::RUN_NUMBERS];
+    run[machine::LEFT] = budget;
     let outcome = programs::programs(&code, &mut cells, &mut sets, &mut run, trace);
     store_cells(&cells, &sets, amounts, presence, labels);
     entry::answer_of(outcome, &run, budget)

@@ -15,7 +15,7 @@ use Rattle.book.specs.declared.Verdict.the-variants.{Accepted}
 use Rattle.book.proofs.Accepted.{placed, accepted, regions-inside, rights-inside, nodes-inside, programs-inside, triggers-inside}
 use Rattle.book.proofs.Decoded.{count-regions, count-rights, count-nodes, count-programs, count-triggers}
 use Rattle.monitor.specs.Call.{script}
-use Rattle.machine.specs.Script.{prices-start, regions-start, rights-start, programs-start, triggers-start, script-of, Sound, Runnable}
+use Rattle.machine.specs.Script.{prices-start, regions-start, rights-start, programs-start, triggers-start, counts-start, script-bytes, script-of, Sound, Runnable}
 use Rattle.encoder.proofs.Codec.{Codec, regions-codec, rights-codec, nodes-codec, programs-codec, triggers-codec}
 use Rattle.start.specs.Start.{Stays, Part, Prices, Counts}
 use Rattle.start.proofs.Copies.{stays-then, le32-same, part-same, records-copied}
@@ -63,14 +63,14 @@ module _ (file : List ℕ) (v : verdict file ≡ Accepted) (b : Bytes file) wher
       ap (λ (k : ℕ). records f k at code) e
       ∙ records-copied codec file code (count file i) (section file i .start) at b inside (omega arith) (part-same m c code stays (f .size * count file i) at below ∙ part)
 
-  pub all-copied : (c₀ c₁ c₂ c₃ c₄ c₅ c₆ code : List ℕ) → length code ≡ 17366
+  pub all-copied : (c₀ c₁ c₂ c₃ c₄ c₅ c₆ code : List ℕ) → length code ≡ script-bytes
       → Stays 0 c₀ c₁ × Part file 3 16 0 c₁
       → Stays prices-start c₁ c₂ × Prices c₂
       → Stays regions-start c₂ c₃ × Part file 1 8 regions-start c₃
       → Stays rights-start c₃ c₄ × Part file 2 4 rights-start c₄
       → Stays programs-start c₄ c₅ × Part file 4 4 programs-start c₅
       → Stays triggers-start c₅ c₆ × Part file 5 8 triggers-start c₆
-      → Stays 17356 c₆ code × Counts file code
+      → Stays counts-start c₆ code × Counts file code
       → Runnable code × (script-of code ≡ script (decode file))
   unfolding script-of script decode regions-format rights-format nodes-format programs-format triggers-format
   all-copied c₀ c₁ c₂ c₃ c₄ c₅ c₆ code long nodes prices regions rights programs triggers counts =

@@ -11,7 +11,7 @@ use Rattle.book.specs.Layout.{count, section}
 use Rattle.book.specs.Start.{public-set, read-sets, write-sets}
 use Rattle.monitor.specs.Call.{rows}
 use Rattle.machine.specs.Script.{prices-start, held-count}
-use Rattle.machine.specs.Store.{row-at, present-row, public-row, read-row, write-row, label-row, users-rows}
+use Rattle.machine.specs.Store.{row-at, present-row, public-row, read-row, write-row, label-row, set-rows, users-rows}
 
 -- the first n bytes are what they were
 pub record Stays (n : ℕ) (old new : List ℕ) : Type 0 where
@@ -30,7 +30,7 @@ Counts file code = (i : ℕ) → i < 5 → held-count code i ≡ count file (i +
 
 -- the cells that are present, the rights of the book's records, and for each cell its own place alone
 pub record SetsOf (b : Book) (present : List ℕ) (sets : List (List ℕ)) : Type 0 where
-  pub long : length sets ≡ 530
+  pub long : length sets ≡ set-rows
   pub present-is : row-at sets present-row ≡ present
   pub public-is : row-at sets public-row ≡ public-set b
   pub read-are : users-rows sets read-row ≡ rows (read-sets b)

@@ -11,7 +11,7 @@ use Rattle.book.specs.Bytes.{four, bits32}
 use Rattle.monitor.specs.Labelled.{bottom, Lab}
 use Rattle.monitor.specs.Run.{Rights, Rec, said, changed, done, plainly, commit, recorded, tell}
 use Rattle.monitor.specs.Call.{record-bytes}
-use Rattle.machine.specs.Store.{row-at, public-row, cells-held, rights-in, left-of, used-of, Store, store, state, room-in, with-records}
+use Rattle.machine.specs.Store.{row-at, public-row, cells-held, rights-in, left-of, used-of, run-numbers, Store, store, state, room-in, with-records}
 use Rattle.machine.specs.Promises.{Stops, ended, Does}
 use Rattle.machine.specs.declared.Outcome.{Outcome}
 use Rattle.machine.specs.declared.Outcome.the-variants.{Done, Stopped}
@@ -26,7 +26,7 @@ module _ (n : ℕ) (r : Rec) (f : Rights → Rights) {vars : ℕ → Lab ℤ} {x
       (λ fuel _. guard-false (λ s. plainly (leb 1 (s .room))) 30 n (commit (r ∷ []) (recorded f)) (state vars x) (no-room (x .trace) (used-of (x .run)) h)))
 
   -- the sets after it have the same cells and the same public set, and the rights that f gives
-  pub tell-writes : {sets : List (List ℕ)} {trace : List ℕ} → length (x .run) ≡ 4 → used-of (x .run) + 8 ≤ length (x .trace)
+  pub tell-writes : {sets : List (List ℕ)} {trace : List ℕ} → length (x .run) ≡ run-numbers → used-of (x .run) + 8 ≤ length (x .trace)
       → trace ≡ with-records (x .trace) (used-of (x .run)) (r ∷ []) → cells-held (x .amounts) (x .sets) ≡ cells-held (x .amounts) sets
       → f (rights-in (x .sets)) ≡ rights-in sets → row-at sets public-row ≡ row-at (x .sets) public-row
       → Does (λ fuel. tell n r f) vars x Done vars (store (x .amounts) sets (set (x .run) 1 (used-of (x .run) + 8)) trace)

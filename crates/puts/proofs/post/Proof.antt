@@ -118,19 +118,19 @@ element-set-from-line c = search needs
 element-set-from-amount : tie.Need-element-set-from-amount
 element-set-from-amount c = search needs
 
+element-copy-out-user : tie.Need-element-copy-out-user
+element-copy-out-user c = search needs
+
 add-byte-at : tie.Need-add-byte-at
-add-byte-at c = omega (arith, node (c .before .before .before .before .before .before .before .before .before .before .before .before .before .before .before .before .before .before .before .before .before .before .before .before .before .before .before .before .before .before .before .before) .short)
+add-byte-at c = omega (arith, node (c .before .before .before .before .before .before .before .before .before .before .before .before .before .before .before .before .before .before .before .before .before .before .before .before .before .before .before .before .before .before .before .before .before) .short)
 
 byte-at-requires : tie.Need-byte-at-requires
-byte-at-requires c κs = omega (arith, node (c .before .before .before .before .before .before .before .before .before .before .before .before .before .before .before .before .before .before .before .before .before .before .before .before .before .before .before .before .before .before .before .before) .end)
-
-element-copy-out-post : tie.Need-element-copy-out-post
-element-copy-out-post c = search needs
+byte-at-requires c κs = omega (arith, node (c .before .before .before .before .before .before .before .before .before .before .before .before .before .before .before .before .before .before .before .before .before .before .before .before .before .before .before .before .before .before .before .before .before) .end)
 
 post-requires : tie.Need-post-requires
 post-requires c κs =
     let read-p = c .before .before .before .before .before .before in
-    let s = read-p .before .before .before .before .before .before .before .before .before .before .before .before .before .before .before .before .before .before .before .before .before .before .before .before .before .before .before .before .before .before .before .before .before in (
+    let s = read-p .before .before .before .before .before .before .before .before .before .before .before .before .before .before .before .before .before .before .before .before .before .before .before .before .before .before .before .before .before .before .before .before .before .before in (
       node-below (script-of (s .args .code .now)) (s .pre .0 .0 .sound) (s .args .n) (s .pre .0 .1 .inside),
       s .pre .0 .2,
       omega (arith, read-p .byte-at .ensures .0, node s .p, fields s .p),
@@ -139,7 +139,7 @@ post-requires c κs =
 returns-4 : tie.Need-returns-4
 returns-4 c =
     let read-p = c .before .before .before .before .before .before .before in
-    let told-c = read-p .before .before in
+    let told-c = read-p .before .before .before in
     let ran-c = told-c .before .before .before in
     let told-b = ran-c .before .before .before .before .before .before in
     let ran-b = told-b .before .before .before in
@@ -154,7 +154,7 @@ returns-4 c =
     (a .cells .now) (a .sets .now) (a .run .now) (named (a .code .now) (read-a .u16-at .ensures .0 ∙ node s .a) (ran-a .eval .ensures))
     (read-back (told-a .before .owner .given .1) (told-a .known-told .given .0 .1)) (named (a .code .now) (read-b .u16-at2 .ensures .0 ∙ node s .b) (ran-b .eval2 .ensures))
     (read-back (told-b .before .line .given .1) (told-b .known-told2 .given .0 .1)) (ran-c .new-amount .ensures) (read-back (told-c .before .amount .given .1) (told-c .known-told3 .given .0 .1))
-    (read-p .byte-at .ensures .0 ∙ node s .p) (key .0) (key .1) (c .post .ensures)
+    (read-p .byte-at .ensures .0 ∙ node s .p) _ (key .0) (key .1) (c .post .ensures)
 
 pub post-spec : {M : Type 1} → statement M
 post-spec =
@@ -180,8 +180,8 @@ post-spec =
     element-set-from-owner
     element-set-from-line
     element-set-from-amount
+    element-copy-out-user
     add-byte-at
     byte-at-requires
-    element-copy-out-post
     post-requires
     returns-4)

@@ -3,7 +3,7 @@ use mathlib.Core.Path.{sym, _∙_}
 use Prim.Native.Nat.{_+_, _*_, _-_, _≤_, _<_}
 use native.Mathlib.Omega.{arith}
 use borrow.Author.Needs.{needs}
-use Rattle.machine.specs.Script.{rights-start, script-of}
+use Rattle.machine.specs.Script.{rights-start, programs-start, script-of}
 use Rattle.rights.proofs.Rights.{Gathering, gathering-none, right-end, region-exists, gathered-kind, gathered-user, gathered-more, gathered}
 use Rattle.rights.proofs.right_set.Statement.{statement}
 use Rattle.rights.proofs.right_set.Tie as tie
@@ -30,7 +30,7 @@ left : (c : tie.In-loop Inv-loop μ-loop) → 0 < c .before .loop .right
 left c = omega (arith, c .loop-test .taken)
 
 -- and stands in the script
-ends : (c : tie.In-loop Inv-loop μ-loop) → rights-start + 4 * (c .before .loop .right - 1) + 4 ≤ 17260
+ends : (c : tie.In-loop Inv-loop μ-loop) → rights-start + 4 * (c .before .loop .right - 1) + 4 ≤ programs-start
 ends c =
     let l = c .before in
     let s = l .before .before .before in

@@ -19,6 +19,9 @@ copy-script-requires c κs = search needs
 start-sets-requires : tie.Need-start-sets-requires
 start-sets-requires c κs = search needs
 
+array-write-run : tie.Need-array-write-run
+array-write-run c = search needs
+
 programs-requires : tie.Need-programs-requires
 programs-requires c κs =
     let sets = c .before .before .before .before .before in
@@ -64,6 +67,7 @@ started-spec =
     load-cells-requires
     copy-script-requires
     start-sets-requires
+    array-write-run
     programs-requires
     store-cells-requires
     answer-of-requires

@@ -8,12 +8,13 @@ use borrow.Author.Needs.{needs}
 use Rattle.book.specs.Bytes.{le16, two}
 use Rattle.book.specs.Layout.{trailer, count}
 use Rattle.book.proofs.Accepted.{placed}
+use Rattle.machine.specs.Script.{counts-start}
 use Rattle.start.proofs.Copies.{Numbers, numbers-none, numbers-turn, le16-same, le16-stored, stored-stays}
 use Rattle.start.proofs.copy_counts.Statement.{statement}
 use Rattle.start.proofs.copy_counts.Tie as tie
 
 abbrev Inv-loop : tie.InvT-loop
-Inv-loop file code₀ i₀ code i = (i ≤ 5) × Numbers le16 17356 2 (λ k. count file (k + 1)) code₀ code i
+Inv-loop file code₀ i₀ code i = (i ≤ 5) × Numbers le16 counts-start 2 (λ k. count file (k + 1)) code₀ code i
 
 abbrev μ-loop : tie.MeasureT-loop
 μ-loop file code₀ i₀ code i = 5 - i
@@ -55,13 +56,13 @@ loop-again c =
     let i : ℕ = l .loop .i in
     let code : List ℕ = l .loop .code in
     let n : ℕ = count (s .args .file .now) (i + 1) in
-    let here : 17356 + 2 * i ≤ length code = omega (arith, l .loop .inv .1 .long, s .pre .1) in
+    let here : counts-start + 2 * i ≤ length code = omega (arith, l .loop .inv .1 .long, s .pre .1) in
     let e = rw (c .before .before .before .before .section-at .ensures) at (c .before .before .put-u16 .ensures) in
     let byte = l .before .before .shared-slice-known .given in
     let at : ℕ = trailer (s .args .file .now) + 10 + 4 * (i + 1) in (
       omega arith,
-      numbers-turn le16-same (l .loop .inv .1) (c .before .before .put-u16 .kept .0) (stored-stays code (two n) _ (17356 + 2 * i) here e)
-          (le16-stored code _ _ (17356 + 2 * i) n here e (omega (arith, byte at, byte (at + 1)))),
+      numbers-turn le16-same (l .loop .inv .1) (c .before .before .put-u16 .kept .0) (stored-stays code (two n) _ (counts-start + 2 * i) here e)
+          (le16-stored code _ _ (counts-start + 2 * i) n here e (omega (arith, byte at, byte (at + 1)))),
     )
 
 same-length : tie.Need-same-length Inv-loop μ-loop

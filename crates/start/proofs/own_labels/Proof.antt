@@ -12,21 +12,21 @@ use lib.Pow.{shl-exact}
 use borrow.Author.Needs.{needs}
 use Rattle.places.specs.Sets.{empty, single}
 use Rattle.places.proofs.Shapes.{single-word}
-use Rattle.machine.specs.Store.{row-at, label-row}
+use Rattle.machine.specs.Store.{row-at, label-row, set-rows}
 use Rattle.machine.proofs.Stores.{row-same, row-other}
 use Rattle.start.proofs.own_labels.Statement.{statement}
 use Rattle.start.proofs.own_labels.Tie as tie
 
 abbrev Inv-loop : tie.InvT-loop
 Inv-loop sets₀ place₀ sets place =
-    (place ≤ 512) × (length sets ≡ 530) × ((q : ℕ) → q < place → row-at sets (label-row + q) ≡ single 8 q)
+    (place ≤ 512) × (length sets ≡ set-rows) × ((q : ℕ) → q < place → row-at sets (label-row + q) ≡ single 8 q)
     × ((q : ℕ) → place ≤ q → q < 512 → row-at sets (label-row + q) ≡ empty 8)
 
 abbrev μ-loop : tie.MeasureT-loop
 μ-loop sets₀ place₀ sets place = 512 - place
 
 loop-holds : tie.Need-loop-holds Inv-loop μ-loop
-loop-holds c = rw (c .pre) (search needs, length-replicate 530 (empty 8), λ q h. absurd (not-suc-le-zero h), λ q l h. getD-replicate 530 (label-row + q) (empty 8) [] (omega arith))
+loop-holds c = rw (c .pre) (search needs, length-replicate set-rows (empty 8), λ q h. absurd (not-suc-le-zero h), λ q l h. getD-replicate set-rows (label-row + q) (empty 8) [] (omega arith))
 
 shl-sets : tie.Need-shl-sets Inv-loop μ-loop
 shl-sets c = search needs
