@@ -24,7 +24,7 @@ use Rattle.machine.specs.declared.Value.{Value}
 use Rattle.machine.specs.declared.Value.the-variants.{Known, Stopped}
 use Rattle.machine.proofs.Runs.{after-none}
 use Rattle.queries.specs.declared.Found.{Found}
-use Rattle.queries.specs.Found.{box, found-in}
+use Rattle.queries.specs.Found.{box, box-in, found-in}
 use Rattle.expressions.proofs.Steps.{labelled, gives-as, stops-at, goes-on, Held}
 use Rattle.expressions.proofs.Parts.{node-in}
 
@@ -140,7 +140,7 @@ module _ (code : List ℕ) (n : ℕ) {cells : ℕ → Lab Cell} {vars : ℕ → 
 
     -- all four, and the cells in their box
     pub bounding-ends : 4 ≤ i → {found : Found}
-        → found ≡ found-in (node-in code n .kind) cells (box (getD bounds 0 (pos 0)) (getD bounds 1 (pos 0)) (getD bounds 2 (pos 0)) (getD bounds 3 (pos 0))) (node-in code n .p)
+        → found ≡ found-in (node-in code n .kind) cells (box-in bounds) (node-in code n .p)
         → {r : Value} {run' : List ℕ} → Held n (found .value) run₁ r run' → Gives (Expresses code n) cells vars run before r run' (union after (found .label))
     unfolding bounding joining
     bounding-ends h is w =

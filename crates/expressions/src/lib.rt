@@ -166,16 +166,8 @@ fn query(
         bounds[i] = bound;
         i += 1;
     }
-    let found = queries::query(
-        code[at],
-        numbers::byte_at(code, at + 1),
-        bounds[0],
-        bounds[1],
-        bounds[2],
-        bounds[3],
-        cells,
-        sets,
-    );
+    let table = numbers::byte_at(code, at + 1);
+    let found = queries::query(code[at], table, &bounds, cells, sets);
     let seen = found.label;
     machine::join(label, seen);
     let exact = found.value;

@@ -111,12 +111,11 @@ pub fn costs() -> [u32; 27]
 }
 
 // The sort of node `i`, for the few roots and bodies.
-pub fn sort_at(file: &[u8], nodes: book::Section, i: usize) -> u8
-    requires { ⌜ Laid (now file) × (nodes ≡ section (now file) 3) × (i < count (now file) 3) ⌝ }
+pub fn sort_at(table: &[[u8; 8]; 27], file: &[u8], nodes: book::Section, i: usize) -> u8
+    requires { ⌜ Laid (now file) × (nodes ≡ section (now file) 3) × (i < count (now file) 3) × (now table ≡ kinds-table) ⌝ }
     ensures { λ r. ⌜ r ≡ sort-of (node-at (decode (now (file .entry))) i .kind) ⌝ }
 {
     let start = nodes.start;
-    let table = table();
-    let row = row_of(&table, file[start + 16 * i]);
+    let row = row_of(table, file[start + 16 * i]);
     row.sort
 }

@@ -47,13 +47,8 @@ pub fn out(
     if trace.len() < used + 8 {
         return machine::stop(run, 30, n);
     }
-    traces::put_record(
-        &mut trace[used..],
-        1,
-        user as u8,
-        0,
-        numbers::bits_of(amount),
-    );
+    let bits = numbers::bits_of(amount);
+    traces::put_record(&mut trace[used..], 1, user as u8, 0, bits);
     run[machine::USED] = run[machine::USED] + 8;
     Outcome::Done
 }

@@ -4,7 +4,7 @@ ghost use mathlib.Core.Path.{_≡_};
 ghost use Prim.Native.Nat.{_^_, _<_};
 ghost use lib.Signed.{mag};
 ghost use Rattle.machine.specs.Store.{cells-held};
-ghost use Rattle.queries.specs.Found.{box, found-in};
+ghost use Rattle.queries.specs.Found.{box-in, found-in};
 ghost use Rattle.queries.specs.Tallies.{start-of, with-amount, value-of, first-from, first-above};
 
 // The value that a query finds, not yet held to 32 bits, and the labels of all cells in its box.
@@ -78,27 +78,18 @@ fn valued(kind: u8, tally: i64) -> i64
     }
 }
 
-// A query of kind 8 to 11 over owners `first` to `last` and lines `low` to `high`; bounds may lie outside 0 to 7.
-pub fn query(
-    kind: u8,
-    table: usize,
-    first: i32,
-    last: i32,
-    low: i32,
-    high: i32,
-    cells: &[i32; 512],
-    sets: &Sets,
-) -> Found
+// A query of kind 8 to 11. The four bounds are the first and the last owner, and the first and the last line; they may lie outside 0 to 7.
+pub fn query(kind: u8, table: usize, bounds: &[i32; 4], cells: &[i32; 512], sets: &Sets) -> Found
     requires { ⌜ table < 8 ⌝ }
-    ensures { λ r. ⌜ r ≡ found-in kind (cells-held (now (cells .entry)) (now (sets .entry))) (box first last low high) table ⌝ }
+    ensures { λ r. ⌜ r ≡ found-in kind (cells-held (now (cells .entry)) (now (sets .entry))) (box-in (now (bounds .entry))) table ⌝ }
 {
-    let end_owner = first_above(last);
-    let start_line = first_from(low);
-    let end_line = first_above(high);
+    let end_owner = first_above(bounds[1]);
+    let start_line = first_from(bounds[2]);
+    let end_line = first_above(bounds[3]);
     let present = sets[machine::PRESENT][table];
     let mut tally = start(kind);
     let mut label = [0u64; 8];
-    let mut owner = first_from(first);
+    let mut owner = first_from(bounds[0]);
     while owner < end_owner {
         let mut line = start_line;
         while line < end_line {

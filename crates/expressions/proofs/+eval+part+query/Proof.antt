@@ -4,8 +4,6 @@ use mathlib.Core.Bool.{true}
 use mathlib.Core.List.{List}
 use Prim.Native.Nat.{ℕ, _+_, _-_, _*_, _<_}
 use native.Mathlib.Omega.{arith}
-use lib.IntN.{pos}
-use lib.ListN.{getD}
 use mir.Syntax.{w32, w64}
 use borrow.Author.Needs.{needs}
 use borrow.Author.Tests.{not-true, not-false}
@@ -302,36 +300,25 @@ module _ (t : ℕ) where
 
   query-query-requires : query-lts.Need-query-requires (query-cs t) (query-at t) query.Post Inv-loop μ-loop
   query-query-requires c κs =
-      let p = c .before .before .before .before in
-      let o = p .before .before .before .before .before in
+      let p = c .before .before in
+      let o = p .before .before .before .before in
       let s = script-of (o .args .code .now) in
       rw (p .byte-at .ensures .0 ∙ read (o .pre .1 .0) (o .pre .1 .1) .p) (query-p s (o .pre .1 .0 .sound) (o .args .n) (o .pre .1 .1 .inside) (o .pre .1 .2))
 
   -- the cells in the box, and their value held to 32 bits
   query-gives : {r : Value} {run' : List ℕ} (c : query-lts.After-join (query-cs t) (query-at t) query.Post Inv-loop μ-loop) →
-      let o = c .before .before .before .before .before .before .before .before .before .before .before .before .before in
-      Held (o .args .n) (c .before .before .before .query .result .value) (c .before .before .before .before .before .before .before .before .before .before .before .before .loop .run) r run'
+      let at = c .before .before .before .before .before .before .before .before .before in
+      let o = at .before in
+      Held (o .args .n) (c .before .before .before .query .result .value) (at .loop .run) r run'
       → Gives (Expresses (o .args .code .now) (o .args .n)) (cells-held (o .args .cells .now) (o .args .sets .now)) (vars-of (o .args .vars .now) (o .args .tags .now))
       (o .args .run .now) (o .args .label .now) r run' (c .join .last .0)
   query-gives c h =
       let q = c .before .before .before in
-      let d5 = q .before in
-      let d4 = d5 .before in
-      let d3 = d4 .before in
-      let d2 = d3 .before in
-      let p = d2 .before in
-      let done = p .before .before .before in
+      let p = q .before .before .before in
+      let done = p .before .before in
       let o = done .before .before in
       let r = read (o .pre .1 .0) (o .pre .1 .1) in
-      let bound = getD (done .before .loop .bounds) in
-      let found-is = rw (
-        kept w32 (bound 0 (pos 0)) (d2 .query-arg2 .given),
-        kept w32 (bound 1 (pos 0)) (d3 .query-arg3 .given),
-        kept w32 (bound 2 (pos 0)) (d4 .query-arg4 .given),
-        kept w32 (bound 3 (pos 0)) (d5 .query-arg5 .given),
-        r .kind,
-        p .byte-at .ensures .0 ∙ r .p,
-      ) at (q .query .ensures) in
+      let found-is = rw (r .kind, p .byte-at .ensures .0 ∙ r .p) at (q .query .ensures) in
       rw (c .join .ensures) (bounding-ends (o .args .code .now) (o .args .n) (done .before .loop .inv) (done .loop-test .left) found-is h)
 
   query-returns-2 : query-lts.Need-returns-2 (query-cs t) (query-at t) query.Post Inv-loop μ-loop
@@ -341,8 +328,8 @@ module _ (t : ℕ) where
       let q = s .before .before .before .before in
       query-gives (s .before) (stop-held (fits-is (q .query .result .value) (s .struct-told .given .0 .1) (b .fits2 .ensures) ∙ not-true _ (c .before .before .if1 .taken)) (c .stop .ensures .1))
 
-  query-cast-t37 : query-lts.Need-cast-t37 (query-cs t) (query-at t) query.Post Inv-loop μ-loop
-  query-cast-t37 c =
+  query-cast-t42 : query-lts.Need-cast-t42 (query-cs t) (query-at t) query.Post Inv-loop μ-loop
+  query-cast-t42 c =
       let s = c .before .before in
       let z = s .before .before .before .before .query .result .value in
       let ok = s .struct-told .given .0 .1 in
@@ -428,16 +415,12 @@ pub +eval+part+query-spec : {M : Type 1} → statement M
     (λ c. search needs)
     (query-loop-again t)
     (λ c. search needs)
-    (λ c. search needs)
     (λ c κs. search needs)
-    (λ c. search needs)
-    (λ c. search needs)
-    (λ c. search needs)
     (λ c. search needs)
     (query-query-requires t)
     (λ c κs. search needs)
     (λ c κs. search needs)
     (λ c κs. search needs)
     (query-returns-2 t)
-    (query-cast-t37 t)
+    (query-cast-t42 t)
     (query-returns-3 t)

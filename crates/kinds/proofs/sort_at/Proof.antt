@@ -10,21 +10,18 @@ use Rattle.kinds.proofs.Sites.{Inside, node-is, node-inside}
 use Rattle.kinds.proofs.sort_at.Statement.{statement}
 use Rattle.kinds.proofs.sort_at.Tie as tie
 
-table-requires : tie.Need-table-requires
-table-requires c κs = search needs
-
 -- the record lies in the file
 inside : (c : tie.Start) → Inside (c .args .file .now) (c .args .nodes .start + 16 * c .args .i) 16
 inside c = node-inside (c .args .file .now) (c .args .nodes) (c .args .i) (c .pre .0) (c .pre .1) (c .pre .2)
 
 mul-row-of : tie.Need-mul-row-of
-mul-row-of c = omega (arith, inside (c .before .before .before))
+mul-row-of c = omega (arith, inside (c .before))
 
 add-row-of : tie.Need-add-row-of
-add-row-of c = omega (arith, inside (c .before .before .before))
+add-row-of c = omega (arith, inside (c .before))
 
 shared-slice-read-row-of : tie.Need-shared-slice-read-row-of
-shared-slice-read-row-of c = omega (arith, inside (c .before .before .before .before))
+shared-slice-read-row-of c = omega (arith, inside (c .before .before))
 
 row-of-requires : tie.Need-row-of-requires
 row-of-requires c κs = search needs
@@ -32,7 +29,7 @@ row-of-requires c κs = search needs
 returns : tie.Need-returns
 unfolding row-of nodes-format
 returns c =
-    let s = c .before .before .before .before .before in
+    let s = c .before .before .before in
     let e = node-is (s .args .file .now) (s .args .nodes) (s .args .i) (s .pre .1) (s .pre .2) in
     ap (λ (r : Row). r .sort) (c .row-of .ensures) ∙ ap (λ (n : NodeRecord). sort-of (n .kind)) (sym e)
 
@@ -40,7 +37,6 @@ pub sort-at-spec : {M : Type 1} → statement M
 sort-at-spec =
     tie.close
     (tie.spec
-    table-requires
     mul-row-of
     add-row-of
     shared-slice-read-row-of

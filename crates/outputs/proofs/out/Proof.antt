@@ -107,6 +107,9 @@ returns-3 c =
     λ who. out-full _ _ _ who _ _ (s .pre) (child .u16-at .ensures .0) (value .eval .ensures) (user .before .before .before .amount .given .1) (user .byte-at .ensures .0)
     (sym (test .within .ensures ∙ ap (within _) (test .before .union .ensures)) ∙ not-false _ (c .before .before .before .before .before .before .if1 .left)) (c .before .before .if2 .taken) (c .stop2 .ensures)
 
+bits-of-requires : tie.Need-bits-of-requires
+bits-of-requires c κs = search needs
+
 sub-put-record : tie.Need-sub-put-record
 sub-put-record c = search needs
 
@@ -118,9 +121,6 @@ part-put-record-end c = search needs
 
 cast-put-record : tie.Need-cast-put-record
 cast-put-record c = search needs
-
-bits-of-requires : tie.Need-bits-of-requires
-bits-of-requires c κs = search needs
 
 put-record-requires : tie.Need-put-record-requires
 put-record-requires c κs = search needs
@@ -153,7 +153,7 @@ returns-4 c =
     let s = child .before .before .before in
     λ who. out-tells _ _ _ who (vars-of (s .args .vars .now) (s .args .tags .now)) _ (s .pre) (child .u16-at .ensures .0) (value .eval .ensures) (user .before .before .before .amount .given .1) (user .byte-at .ensures .0)
     (sym (test .within .ensures ∙ ap (within _) (test .before .union .ensures)) ∙ not-false _ (room .before .before .before .before .if1 .left)) (room .before .before .all2 .given .0) (room .if2 .left) (put .put-record .ensures)
-    (put .before .bits-of .ensures ∙ ap bits32 (toZ-ofZ {w = w32} {z = user .before .before .before .amount .given .0 .0} (record { sfits = user .before .before .known-told .given .0 .1 })))
+    (put .before .before .bits-of .ensures ∙ ap bits32 (toZ-ofZ {w = w32} {z = user .before .before .before .amount .given .0 .0} (record { sfits = user .before .before .known-told .given .0 .1 })))
 
 pub out-spec : {M : Type 1} → statement M
 out-spec =
@@ -181,11 +181,11 @@ out-spec =
     add-if2
     stop-requires-2
     returns-3
+    bits-of-requires
     sub-put-record
     part-put-record-start
     part-put-record-end
     cast-put-record
-    bits-of-requires
     put-record-requires
     element-copy-out-run
     add-run

@@ -27,7 +27,7 @@ sort-at-requires : tie.Need-sort-at-requires
 sort-at-requires c κs =
     let s = c .before .before .before in
     let h : s .args .i < count (s .args .file .now) 3 = rw (← number s) (c .if1 .left) in
-    (s .pre .0, s .pre .1, h)
+    (s .pre .0, s .pre .1, h, s .pre .2)
 
 returns-2 : tie.Need-returns-2
 unfolding is-command

@@ -143,7 +143,7 @@ u16-at-requires c κs = search needs
 is-command-requires : tie.Need-is-command-requires
 is-command-requires c κs =
     let x = start-5 (c .before) in
-    (x .pre .0 .0, x .pre .0 .1)
+    (x .pre .0 .0, x .pre .0 .1, x .pre .0 .4)
 
 -- the call's answer is about the body
 said : (c : tie.After-is-command) → let x = start-5 (c .before .before) in is-command (decode (x .args .file .now)) (le16 (x .args .file .now) (x .args .at + 4)) ≡ c .is-command .result
