@@ -1,4 +1,4 @@
-// The parts of a written book: cell records and trailer, each stored into lent output.
+// The parts of a written book, each stored into lent output: cell records, trailer, and numbers and copied bytes, which fill a script too.
 ghost use mathlib.Core.Path.{_≡_};
 ghost use mathlib.Core.List.{_++_};
 ghost use Prim.Native.Nat.{_+_, _≤_, _<_};

@@ -95,7 +95,7 @@ pub fn row_of(table: &[[u8; 8]; 27], kind: u8) -> book::Row
     row_at(table, at)
 }
 
-// The costs of kinds 0 to 26, a column of the table: a run lends it down and pays by it, so that no node looks at a whole row.
+// The costs of kinds 0 to 26, a column of the table: the script of a run has them, and a run pays by them, so that no node looks at a whole row.
 pub fn costs() -> [u32; 27]
     ensures { λ r. ⌜ r ≡ tabulate cost-of 27 ⌝ }
 {

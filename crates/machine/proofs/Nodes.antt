@@ -1,4 +1,4 @@
--- What is known of a node that is being run: its record in the file, its cost, and for each kind what its fields name.
+-- What is known of a node that is being run: its record in the script, its cost, and for each kind what its fields name.
 -- Assumes nothing.
 use mathlib.Core.Path.{_≡_, sym, ap, _∙_}
 use mathlib.Core.List.{List}

@@ -23,7 +23,7 @@ unfoldable pub posted-end : Posted → Outcome
 posted-end (posted.At place) = Done
 posted-end posted.Stopped = Stopped
 
--- the tests and the write, whatever the variables and the trace; the write has the amount's label `own` beside the context's
+-- the tests and the write, whatever the variables and the trace; the write has the label of z beside the context's
 pub record Posts (n : ℕ) (ctx : Label) (user table : ℕ) (k : Key) (z : Lab Cell) (amounts : List ℤ) (sets : List (List ℕ)) (run : List ℕ) (r : Posted) (amounts' : List ℤ) (sets' : List (List ℕ)) (run' : List ℕ) : Type 0 where
   pub does : (vars : ℕ → Lab ℤ) (trace : List ℕ) → used-of run ≤ length trace
       → Does (λ fuel. posting true n ctx user table k z) vars (store amounts sets run trace) (posted-end r) vars (store amounts' sets' run' trace)

@@ -1,4 +1,4 @@
-// Copies between lent memory and arrays, whose lengths the functions below the entry need not ask for.
+// Copies between lent memory and arrays, whose lengths the running functions need not ask for.
 ghost use mathlib.Core.Path.{_≡_};
 ghost use lib.ListN.{length};
 

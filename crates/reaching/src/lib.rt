@@ -32,6 +32,10 @@ fn reaches(file: &[u8], nodes: book::Section, flags: &[bool; 1024], n: usize) ->
     let start = nodes.start;
     let at = start + 16 * n;
     let kind = file[at];
+    // Most nodes are of a lower kind, and reach none that is forbidden.
+    if kind < 18 {
+        return false;
+    }
     if kind == 18 {
         return flagged(
             flags,

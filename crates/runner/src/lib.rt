@@ -43,8 +43,8 @@ fn store_cells(
     }
 }
 
-// Runs an accepted book from its start state; at the end lent memory gets its cells. The run works on arrays of its own, so that no function
-// below asks for their lengths.
+// Runs an accepted book from its start state; at the end lent memory gets its cells. The run works on arrays of its own, so that no running
+// function asks for their lengths.
 fn started(
     file: &[u8],
     budget: u32,
