@@ -130,5 +130,5 @@ module _ {code : List ℕ} {ctx : Label} {who : Who} {n m : ℕ} {vars vars' : �
       keeps = keeps-both (c .rest .keeps) (keeps-both (h .keeps) (does-keeps d));
       ends = λ g. c .rest .ends (h .goes (then-goes d o (rw t (rw e at g))));
     };
-    within = omega (arith, c .within, h .less, d .within, weight-most code b (x'' .run));
+    within = omega (arith, c .within, h .less, d .leaves .within, weight-most code b (x'' .run));
   }

@@ -12,12 +12,11 @@ use Rattle.monitor.specs.Labelled.{Label, bottom, Lab}
 use Rattle.monitor.specs.Run.{stop, M, next}
 use Rattle.monitor.specs.Rules.{cost-at, exec}
 use Rattle.machine.specs.Script.{script-of}
-use Rattle.machine.specs.Store.{row-at, public-row, left-of, used-of, Store, state, with-records, Lent}
+use Rattle.machine.specs.Store.{row-at, public-row, left-of, used-of, Store, state, Lent}
 use Rattle.machine.specs.Promises.{Paid, Short, Pays, ended, Does, Enters, Commands, Who}
 use Rattle.machine.specs.declared.Outcome.{Outcome}
 use Rattle.machine.specs.declared.Outcome.the-variants.{Stopped}
-use Rattle.machine.proofs.Traces.{with-length}
-use Rattle.machine.proofs.Runs.{after-none, with-run, pay-passes, pay-fails, stops-on}
+use Rattle.machine.proofs.Runs.{after-none, with-run, pay-passes, pay-fails, leaves-from, leaves-long, stops-on}
 
 -- ---- what is kept
 
@@ -28,10 +27,10 @@ pub record Keeps (x x' : Store) : Type 0 where
   pub public-same : row-at (x' .sets) public-row ≡ row-at (x .sets) public-row
 
 pub does-keeps : {m : ℕ → M (Unit {0})} {vars vars' : ℕ → Lab ℤ} {x x' : Store} {r : Outcome} → Does m vars x r vars' x' → Keeps x x'
-does-keeps {x = x} {x' = x'} d =
-    let long : length (x' .trace) ≡ length (x .trace) =
-    ap length (d .trace-is) ∙ with-length (x .trace) (used-of (x .run)) (omega (arith, d .used-is, d .fits)) (d .records) (omega (arith, d .used-is, d .fits)) in
-    record { same = long; fits = omega (arith, d .fits); within = d .within; public-same = d .public-same }
+does-keeps d =
+    let l = d .leaves in
+    let long = leaves-long l in
+    record { same = long; fits = omega (arith, l .fits, long); within = l .within; public-same = l .public-same }
 
 -- other numbers of the run, with no more left
 pub run-keeps : {x : Store} {run : List ℕ} → used-of (x .run) ≤ length (x .trace) → left-of run ≤ left-of (x .run) → used-of run ≡ used-of (x .run)
@@ -92,11 +91,7 @@ module _ (code : List ℕ) (n : ℕ) where
       records = d .records;
       obstacle = d .obstacle;
       is = entered;
-      trace-is = d .trace-is ∙ ap (λ (u : ℕ). with-records (x .trace) u (d .records)) (p .used-same);
-      used-is = omega (arith, d .used-is, p .used-same);
-      fits = d .fits;
-      within = omega (arith, d .within, p .left-is);
-      public-same = d .public-same;
+      leaves = leaves-from (p .used-same) (omega (arith, paid-less p)) (d .leaves);
     }
       where
         entered : (fuel : ℕ) → left-of (x .run) ≤ fuel → Enters code ctx who n fuel (state vars x) ≡ ended r (x' .run) (d .obstacle) (d .records) (state vars' x')

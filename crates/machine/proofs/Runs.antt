@@ -11,7 +11,7 @@ use borrow.Author.Tests.{le-leb, lt-leb}
 use Rattle.monitor.specs.Labelled.{Label, bottom, Lab}
 use Rattle.monitor.specs.Run.{State, Rec, Out, done, stop, M, after, next, _>>=_, _>>_, ret, look, Test, guard, need, pay, restore, own}
 use Rattle.machine.specs.Store.{row-at, public-row, cells-held, left-of, used-of, Store, store, state, with-records}
-use Rattle.machine.specs.Promises.{Stops, Paid, halted, given, Gives, ended, Does}
+use Rattle.machine.specs.Promises.{Stops, Paid, halted, given, Gives, ended, Leaves, Does}
 use Rattle.machine.specs.declared.Value.{Value}
 use Rattle.machine.specs.declared.Value.the-variants as value
 use Rattle.machine.specs.declared.Outcome.{Outcome}
@@ -119,21 +119,58 @@ gives-state : (vars : ℕ → Lab ℤ) (x : Store) {m : ℕ → M (Lab ℤ)} {be
     → m fuel (state vars x) ≡ given v (d .label) run (state vars (with-run x run))
 gives-state vars x d fuel h = rw (d .used-same) (d .is fuel h _ _)
 
+-- ---- what is left beside the rules' state
+
+-- no record is written, and the trace bytes used stay
+leaves-none : {x : Store} {amounts : List ℤ} {sets : List (List ℕ)} {run : List ℕ} → used-of (x .run) ≤ length (x .trace)
+    → left-of run ≤ left-of (x .run) → used-of run ≡ used-of (x .run) → row-at sets public-row ≡ row-at (x .sets) public-row
+    → Leaves x [] (store amounts sets run (x .trace))
+leaves-none {x} u w e p = record {
+  trace-is = sym (with-none (x .trace) (used-of (x .run)));
+  used-is = omega (arith, e);
+  fits = omega (arith, e, u);
+  within = w;
+  public-same = p;
+}
+
+-- the same from numbers of the run that have as much of the trace used
+pub leaves-from : {x x' : Store} {run : List ℕ} {records : List Rec} → used-of run ≡ used-of (x .run) → left-of run ≤ left-of (x .run)
+    → Leaves (with-run x run) records x' → Leaves x records x'
+leaves-from {x} {records = records} e w l = record {
+  trace-is = l .trace-is ∙ ap (λ (n : ℕ). with-records (x .trace) n records) e;
+  used-is = omega (arith, e, l .used-is);
+  fits = l .fits;
+  within = omega (arith, w, l .within);
+  public-same = l .public-same;
+}
+
+-- the trace is as long as it was
+pub leaves-long : {x x' : Store} {records : List Rec} → Leaves x records x' → length (x' .trace) ≡ length (x .trace)
+leaves-long {x} {records = records} l =
+    let end : used-of (x .run) + 8 * length records ≤ length (x .trace) = omega (arith, l .used-is, l .fits) in
+    ap length (l .trace-is) ∙ with-length (x .trace) (used-of (x .run)) (omega arith) records end
+
+-- one after the other
+leaves-both : {x x₁ x₂ : Store} {a b : List Rec} → Leaves x a x₁ → Leaves x₁ b x₂ → Leaves x (a ++ b) x₂
+leaves-both {x} {x₁} {a = a} {b = b} l k =
+    let used : ℕ = used-of (x .run) in
+    record {
+      trace-is = k .trace-is
+          ∙ ap (λ (t : List ℕ). with-records t (used-of (x₁ .run)) b) (l .trace-is)
+          ∙ ap (λ (n : ℕ). with-records (with-records (x .trace) used a) n b) (l .used-is)
+          ∙ with-both (x .trace) used (omega (arith, l .used-is, l .fits)) a b;
+      used-is = rw (length-append a b) (omega (arith, l .used-is, k .used-is));
+      fits = omega (arith, k .fits, leaves-long l);
+      within = omega (arith, l .within, k .within);
+      public-same = k .public-same ∙ l .public-same;
+    }
+
 module _ {vars : ℕ → Lab ℤ} {x : Store} where
   -- a run that comes to another one without leaving the state
   pub comes-to : {m m' : ℕ → M (Unit {0})} {r : Outcome} {vars' : ℕ → Lab ℤ} {x' : Store}
       → ((fuel : ℕ) → left-of (x .run) ≤ fuel → m fuel (state vars x) ≡ m' fuel (state vars x))
       → Does m' vars x r vars' x' → Does m vars x r vars' x'
-  comes-to e d = record {
-    records = d .records;
-    obstacle = d .obstacle;
-    is = λ fuel h. e fuel h ∙ d .is fuel h;
-    trace-is = d .trace-is;
-    used-is = d .used-is;
-    fits = d .fits;
-    within = d .within;
-    public-same = d .public-same;
-  }
+  comes-to e d = record { records = d .records; obstacle = d .obstacle; is = λ fuel h. e fuel h ∙ d .is fuel h; leaves = d .leaves }
 
   -- the same run by another name
   pub does-as : {m m' : ℕ → M (Unit {0})} {r : Outcome} {vars' : ℕ → Lab ℤ} {x' : Store}
@@ -146,16 +183,7 @@ module _ {vars : ℕ → Lab ℤ} {x : Store} where
         → left-of run ≤ left-of (x .run) → used-of run ≡ used-of (x .run) → row-at sets public-row ≡ row-at (x .sets) public-row
         → ((fuel : ℕ) → left-of (x .run) ≤ fuel → m fuel (state vars x) ≡ ended r run obstacle [] (state vars' (store amounts sets run (x .trace))))
         → Does m vars x r vars' (store amounts sets run (x .trace))
-    quietly {run = run} obstacle w e p is = record {
-      records = [];
-      obstacle = obstacle;
-      is = is;
-      trace-is = sym (with-none (x .trace) (used-of (x .run)));
-      used-is = omega (arith, e);
-      fits = omega (arith, e, u);
-      within = w;
-      public-same = p;
-    }
+    quietly obstacle w e p is = record { records = []; obstacle = obstacle; is = is; leaves = leaves-none u w e p }
 
     -- a test that fails
     pub stops-on : {m : ℕ → M (Unit {0})} {run : List ℕ} {number node : ℕ} (obstacle : Label) → Stops (x .run) number node run
@@ -180,52 +208,32 @@ module _ {vars : ℕ → Lab ℤ} {x : Store} where
     records = d .records;
     obstacle = d .obstacle;
     is = λ fuel h. ap (λ o. next o (λ a. k fuel)) (d .is fuel h) ∙ next-stopped r (x' .run) (d .obstacle) (d .records) (state vars' x') (k fuel) e;
-    trace-is = d .trace-is;
-    used-is = d .used-is;
-    fits = d .fits;
-    within = d .within;
-    public-same = d .public-same;
+    leaves = d .leaves;
   }
 
   -- a command that is done, and then another
   pub then-goes : {m k : ℕ → M (Unit {0})} {r : Outcome} {vars₁ : ℕ → Lab ℤ} {x₁ : Store} {r' : Outcome} {vars₂ : ℕ → Lab ℤ} {x₂ : Store}
       → Does m vars x r vars₁ x₁ → r ≡ Done → Does k vars₁ x₁ r' vars₂ x₂ → Does (λ fuel. m fuel >> k fuel) vars x r' vars₂ x₂
-  then-goes {m} {k} {r} {vars₁} {x₁} {r'} {vars₂} {x₂} d o e =
-      let used : ℕ = used-of (x .run) in
-      let u : used ≤ length (x .trace) = omega (arith, d .used-is, d .fits) in
-      let end : used + 8 * length (d .records) ≤ length (x .trace) = omega (arith, d .used-is, d .fits) in
-      let long : length (x₁ .trace) ≡ length (x .trace) = ap length (d .trace-is) ∙ with-length (x .trace) used u (d .records) end in
-      record {
-        records = d .records ++ e .records;
-        obstacle = e .obstacle;
-        is = λ fuel h. ap (λ o. next o (λ a. k fuel)) (d .is fuel h)
-            ∙ next-done r (x₁ .run) (d .obstacle) (d .records) (state vars₁ x₁) (k fuel) o
-            ∙ ap (after (d .records)) (e .is fuel (omega (arith, d .within)))
-            ∙ after-ended r' (x₂ .run) (e .obstacle) (d .records) (e .records) (state vars₂ x₂);
-        trace-is = e .trace-is
-            ∙ ap (λ (t : List ℕ). with-records t (used-of (x₁ .run)) (e .records)) (d .trace-is)
-            ∙ ap (λ (n : ℕ). with-records (with-records (x .trace) used (d .records)) n (e .records)) (d .used-is)
-            ∙ with-both (x .trace) used u (d .records) (e .records);
-        used-is = rw (length-append (d .records) (e .records)) (omega (arith, d .used-is, e .used-is));
-        fits = omega (arith, e .fits, long);
-        within = omega (arith, d .within, e .within);
-        public-same = e .public-same ∙ d .public-same;
-      }
+  then-goes {m} {k} {r} {vars₁} {x₁} {r'} {vars₂} {x₂} d o e = record {
+    records = d .records ++ e .records;
+    obstacle = e .obstacle;
+    is = λ fuel h. ap (λ o. next o (λ a. k fuel)) (d .is fuel h)
+        ∙ next-done r (x₁ .run) (d .obstacle) (d .records) (state vars₁ x₁) (k fuel) o
+        ∙ ap (after (d .records)) (e .is fuel (omega (arith, d .leaves .within)))
+        ∙ after-ended r' (x₂ .run) (e .obstacle) (d .records) (e .records) (state vars₂ x₂);
+    leaves = leaves-both (d .leaves) (e .leaves);
+  }
 
   -- from other numbers of the same state on
   pub from-run : {m : ℕ → M (Unit {0})} {run : List ℕ} {r : Outcome} {vars' : ℕ → Lab ℤ} {x' : Store} → used-of run ≡ used-of (x .run)
       → {k : ℕ → M (Unit {0})} → left-of run ≤ left-of (x .run)
       → ((fuel : ℕ) → left-of (x .run) ≤ fuel → m fuel (state vars x) ≡ k fuel (state vars (with-run x run)))
       → Does k vars (with-run x run) r vars' x' → Does m vars x r vars' x'
-  from-run {x' = x'} u w is d = record {
+  from-run u w is d = record {
     records = d .records;
     obstacle = d .obstacle;
     is = λ fuel h. is fuel h ∙ d .is fuel (omega (arith, w));
-    trace-is = d .trace-is ∙ ap (λ (n : ℕ). with-records (x .trace) n (d .records)) u;
-    used-is = omega (arith, u, d .used-is);
-    fits = d .fits;
-    within = omega (arith, w, d .within);
-    public-same = d .public-same;
+    leaves = leaves-from u w (d .leaves);
   }
 
   -- ---- an expression first
@@ -252,11 +260,7 @@ own-does {own-vars' = own-vars'} {vars = vars} {x' = x'} {r = r} d = record {
   records = d .records;
   obstacle = d .obstacle;
   is = λ fuel h. ap (restore vars) (d .is fuel h) ∙ back r;
-  trace-is = d .trace-is;
-  used-is = d .used-is;
-  fits = d .fits;
-  within = d .within;
-  public-same = d .public-same;
+  leaves = d .leaves;
 }
   where
     back : (o : Outcome) → restore vars (ended o (x' .run) (d .obstacle) (d .records) (state own-vars' x')) ≡ ended o (x' .run) (d .obstacle) (d .records) (state vars x')

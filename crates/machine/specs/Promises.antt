@@ -79,17 +79,21 @@ unfoldable pub ended : Outcome → List ℕ → Label → List Rec → State →
 ended Done run obstacle records s = done records tt s
 ended Stopped run obstacle records s = stop records (halted run obstacle) s
 
--- With any fuel that is at least what is left of the budget, m goes from these variables and this store to those, with the answer r; the
--- records that it writes are the new bytes of the trace, and the public set stays.
-pub record Does (m : ℕ → M (Unit {0})) (vars : ℕ → Lab ℤ) (x : Store) (r : Outcome) (vars' : ℕ → Lab ℤ) (x' : Store) : Type 0 where
-  pub records : List Rec
-  pub obstacle : Label
-  pub is : (fuel : ℕ) → left-of (x .run) ≤ fuel → m fuel (state vars x) ≡ ended r (x' .run) obstacle records (state vars' x')
+-- what a run leaves of a store beside the state of the rules: the records that it writes are the new bytes of the trace, no more is left of the
+-- budget than there was, and the public set stays
+pub record Leaves (x : Store) (records : List Rec) (x' : Store) : Type 0 where
   pub trace-is : x' .trace ≡ with-records (x .trace) (used-of (x .run)) records
   pub used-is : used-of (x' .run) ≡ used-of (x .run) + 8 * length records
   pub fits : used-of (x' .run) ≤ length (x .trace)
   pub within : left-of (x' .run) ≤ left-of (x .run)
   pub public-same : row-at (x' .sets) public-row ≡ row-at (x .sets) public-row
+
+-- With any fuel that is at least what is left of the budget, m goes from these variables and this store to those, with the answer r.
+pub record Does (m : ℕ → M (Unit {0})) (vars : ℕ → Lab ℤ) (x : Store) (r : Outcome) (vars' : ℕ → Lab ℤ) (x' : Store) : Type 0 where
+  pub records : List Rec
+  pub obstacle : Label
+  pub is : (fuel : ℕ) → left-of (x .run) ≤ fuel → m fuel (state vars x) ≡ ended r (x' .run) obstacle records (state vars' x')
+  pub leaves : Leaves x records x'
 
 -- who runs a command: the user, and the least number of a trigger that its writes fire
 pub record Who : Type 0 where

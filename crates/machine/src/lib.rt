@@ -42,7 +42,7 @@ pub const ABOVE: usize = 1;
 // The book that is run, without its cells: each section at a place of its own, with room for its most records. The nodes are at 0.
 pub type Script = [u8; SCRIPT_BYTES];
 
-// What it costs to enter a node of each kind, four bytes each. It stands behind the nodes.
+// What it costs to enter a node of each kind, four bytes each: behind the nodes.
 pub const PRICES: usize = 16 * 1024;
 
 // Where the other sections start: each behind the one before.

@@ -207,14 +207,14 @@ module _ (code : List ℕ) (ctx : Label) (who : Who) (n event : ℕ) (kind : nod
               -- a trace that is full holds no more records
               let full : List ℕ = replicate (used-of run₃) 0 in
               let size : length full ≡ used-of run₃ = length-replicate (used-of run₃) 0 in
-              let d = q .does vars full (omega arith) in
+              let l = q .does vars full (omega arith) .leaves in
               record {
                 own = d₃ .label;
                 stops = λ e trace u. to-write trace (rw e at (then-stops (Fires code l₂ (who .above) event (key-place table k) k z) (q .does vars trace (omega (arith, used-is))) (rw e)));
                 goes = λ place e trace u f. to-write trace (then-goes (q .does vars trace (omega (arith, used-is))) (rw e) (rw (q .place-is place e) at f));
                 label-is = λ place e. d₃ .joined e₃;
                 inside = λ place e. q .place-inside place e;
-                within = omega (arith, d₁ .within, d₂ .within, d₃ .within, d .within);
-                used-same = omega (arith, used-is, d .used-is, d .fits);
-                public-same = d .public-same;
+                within = omega (arith, d₁ .within, d₂ .within, d₃ .within, l .within);
+                used-same = omega (arith, used-is, l .used-is, l .fits);
+                public-same = l .public-same;
               }

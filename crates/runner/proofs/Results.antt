@@ -84,7 +84,7 @@ module _ (file code : List ℕ) (same : script-of code ≡ script (decode file))
     run-gives e =
         let does = d vars in
         let n : ℕ = 8 * length (does .records) in
-        let trace = does .trace-is ∙ ap (λ (k : ℕ). trace-bytes (does .records) ++ drop k (m .trace)) (zero-add n) in
+        let trace = does .leaves .trace-is ∙ ap (λ (k : ℕ). trace-bytes (does .records) ++ drop k (m .trace)) (zero-add n) in
         (λ i. result (answer-of r run' budget) (lent (e .0 i) (e .1 i) (e .2 i) (trace i)))
-        ∙ sym (ended-result budget m r (does .obstacle) (does .records) vars (store amounts' sets' run' trace') (does .used-is ∙ zero-add n))
+        ∙ sym (ended-result budget m r (does .obstacle) (does .records) vars (store amounts' sets' run' trace') (does .leaves .used-is ∙ zero-add n))
         ∙ ap (result-of budget m) (sym (does .is budget (le-refl budget)) ∙ runs-book)

@@ -42,11 +42,7 @@ module _ (n : ℕ) (r : Rec) (f : Rights → Rights) {vars : ℕ → Lab ℤ} {x
         obstacle = bottom;
         is = λ fuel _. guard-true (λ s. plainly (leb 1 (s .room))) 30 n (commit (r ∷ []) (recorded f)) (state vars x) (some-room (x .trace) used h)
             ∙ (λ i. done (r ∷ []) tt (record { cells = ec i; vars = vars; rights = ef i; left = sym same i; room = room i }));
-        trace-is = et;
-        used-is = now;
-        fits = omega (arith, now);
-        within = omega (arith, same);
-        public-same = ep;
+        leaves = record { trace-is = et; used-is = now; fits = omega (arith, now); within = omega (arith, same); public-same = ep };
       }
 
 -- ---- the bytes, as they stand in the part that is lent on

@@ -34,7 +34,7 @@ store-cells-requires : tie.Need-store-cells-requires
 store-cells-requires c κs = search needs
 
 answer-of-requires : tie.Need-answer-of-requires
-answer-of-requires c κs = c .before .before .before .before .before .before .before .before .before .before .before .before .before .before .programs .ensures (sixteen (lit (pos 0))) .within
+answer-of-requires c κs = c .before .before .before .before .before .before .before .before .before .before .before .before .before .before .programs .ensures (sixteen (lit (pos 0))) .leaves .within
 
 same-length : tie.Need-same-length
 same-length c = search needs

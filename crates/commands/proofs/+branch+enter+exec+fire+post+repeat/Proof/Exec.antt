@@ -88,7 +88,7 @@ pub u16-at-requires-2 : (t : ℕ) → lts.Need-u16-at-requires-2 (exec-cs t) (ex
 u16-at-requires-2 t c κs = omega (arith, node t (c .before .before .before .before .before .before .before .before .before .before .before .before .before .before .before) .end)
 
 pub loop-less : (t : ℕ) → lts.Need-loop-less (exec-cs t) (exec-at t) Post Inv-loop μ-loop
-loop-less t c = omega (arith, head t (c .before .before .before .before .before .before .before .before .before .before .before .before .before .before) .falls (not-false _ (c .before .before .if2 .left)), c .before .before .before .before .before .before .before .enter .ensures .within)
+loop-less t c = omega (arith, head t (c .before .before .before .before .before .before .before .before .before .before .before .before .before .before) .falls (not-false _ (c .before .before .if2 .left)), c .before .before .before .before .before .before .before .enter .ensures .leaves .within)
 
 pub loop-again : (t : ℕ) → lts.Need-loop-again (exec-cs t) (exec-at t) Post Inv-loop μ-loop
 loop-again t c = chain-turns (c .before .before .before .before .before .before .before .before .before .before .before .before .before .before .before .before .loop .inv) (head t (c .before .before .before .before .before .before .before .before .before .before .before .before .before .before)) (not-false _ (c .before .before .if2 .left)) (c .before .before .before .before .before .before .before .enter .ensures) (c .before .before .before .enum-told3 .given .1)

@@ -77,7 +77,7 @@ pub loop-less : (t : ℕ) → lts.Need-loop-less (repeat-cs t) (repeat-at t) Pos
 loop-less t c =
     let s = c .before .before .before .before .before .before .before .before .before .before .before .before .before .before .before .before .before .before .before .before .before .before .before .before .before .before .before .before .before in
     let a = s .args in
-    omega (arith, paid-less (a .code .now) (a .n) (priced (a .code .now) (a .n) (sym (s .pre .1 .1)) (c .before .before .pay .ensures) .paid (c .enum-told3 .given .1)), c .before .before .before .before .before .before .before .before .exec .ensures .within, c .before .before .before .before .before .before .before .before .before .before .before .before .before .before .before .before .before .before .before .decide .ensures .gives .within)
+    omega (arith, paid-less (a .code .now) (a .n) (priced (a .code .now) (a .n) (sym (s .pre .1 .1)) (c .before .before .pay .ensures) .paid (c .enum-told3 .given .1)), c .before .before .before .before .before .before .before .before .exec .ensures .leaves .within, c .before .before .before .before .before .before .before .before .before .before .before .before .before .before .before .before .before .before .before .decide .ensures .gives .within)
 
 pub loop-again : (t : ℕ) → lts.Need-loop-again (repeat-cs t) (repeat-at t) Post Inv-loop μ-loop
 loop-again t c =
