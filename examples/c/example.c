@@ -1,4 +1,4 @@
-/* Runs a trust book, loads it and writes it, and prints what each call answers and leaves in lent memory.
+/* Runs a trust book, explains it, loads it and writes it, and prints what each call answers and leaves in lent memory.
  *
  * To compile and run it, in the folder of the repository:
  *
@@ -6,7 +6,7 @@
  *     cc -std=c11 -I crates/capi/include -o example examples/c/example.c target/staticlib/libcapi.a
  *     ./example examples/w.book
  *
- * w.out, posting.out and correction.out have what it prints for these books, worked out by hand. It is C++ as well as C. */
+ * w.out, posting.out, correction.out and leak.out have what it prints for these books, worked out by hand. It is C++ too. */
 #include "kagyurma.h"
 
 #include <inttypes.h>
@@ -32,6 +32,10 @@ struct cells {
 static struct cells cells;
 static uint8_t trace[4096];
 static uint8_t out[60000];
+
+/* What the run left, to compare with it what explaining leaves. */
+static struct cells cells_of_run;
+static uint8_t trace_of_run[sizeof trace];
 
 /* A book has at most 60,000 bytes. There is room for one more, so that a longer file is refused and not cut. */
 static uint8_t file[60001];
@@ -124,7 +128,7 @@ static void print_rest(const char *name, const uint8_t *buffer, size_t size, siz
     printf("%s bytes after that: %zu, untouched: %zu\n", name, size - used, untouched);
 }
 
-/* ---- the three calls */
+/* ---- the four calls */
 
 /* A refused call leaves lent memory as it was, so that there is nothing to print. */
 static bool is_refusal(uint32_t number)
@@ -137,10 +141,15 @@ static void print_answer(const char *call, struct kagyurma_answered answer)
     printf("%s: number %" PRIu32 ", at %" PRIu32 ", length %" PRIu32 "\n", call, answer.number, answer.at, answer.length);
 }
 
-static void run_book(const uint8_t *book, size_t length)
+static void fill_cells_and_trace(void)
 {
     memset(&cells, UNTOUCHED, sizeof cells);
     memset(trace, UNTOUCHED, sizeof trace);
+}
+
+static void run_book(const uint8_t *book, size_t length)
+{
+    fill_cells_and_trace();
     const struct kagyurma_ran ran = kagyurma_run(book, length, BUDGET,
                                                  cells.amounts, COUNT(cells.amounts),
                                                  cells.presence, COUNT(cells.presence),
@@ -156,6 +165,35 @@ static void run_book(const uint8_t *book, size_t length)
     }
     print_rest("trace", trace, sizeof trace, ran.bytes);
     print_cells();
+}
+
+/* Prints which cells stood in the way of the run: places of a set that had to lie within another, which lacks them. */
+static void print_in_the_way(uint32_t place, uint32_t count)
+{
+    if (place == KAGYURMA_NO_PLACE) {
+        printf("no place stands in the way\n");
+    } else {
+        printf("places in the way: %" PRIu32 ", the lowest: table %" PRIu32 ", owner %" PRIu32 ", line %" PRIu32 "\n", count,
+               place / 64, place / 8 % 8, place % 8);
+    }
+}
+
+/* Explains the run that was made just before. */
+static void explain_book(const uint8_t *book, size_t length)
+{
+    memcpy(&cells_of_run, &cells, sizeof cells);
+    memcpy(trace_of_run, trace, sizeof trace);
+    fill_cells_and_trace();
+    const struct kagyurma_explained explained = kagyurma_explain(book, length, BUDGET,
+                                                                 cells.amounts, COUNT(cells.amounts),
+                                                                 cells.presence, COUNT(cells.presence),
+                                                                 cells.labels, COUNT(cells.labels),
+                                                                 trace, sizeof trace);
+    printf("explain: number %" PRIu32 ", at %" PRIu32 ", cost %" PRIu32 ", bytes %" PRIu32 ", place %" PRIu32 ", count %" PRIu32
+           "\n", explained.number, explained.at, explained.cost, explained.bytes, explained.place, explained.count);
+    print_in_the_way(explained.place, explained.count);
+    const bool same = memcmp(&cells, &cells_of_run, sizeof cells) == 0 && memcmp(trace, trace_of_run, sizeof trace) == 0;
+    printf("cells and trace are %s\n", same ? "as the run left them, byte for byte" : "OTHERS than the run left");
 }
 
 /* Gives whether the book was accepted. */
@@ -236,6 +274,7 @@ int main(int argc, char **argv)
         return 2;
     }
     run_book(file, length);
+    explain_book(file, length);
     if (load_book(file, length)) {
         write_back(file, length);
         write_changed(file, length);

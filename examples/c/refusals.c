@@ -1,4 +1,4 @@
-/* Every refusal of the three calls, and that a refused call leaves lent memory as it was.
+/* Every refusal of the four calls, and that a refused call leaves lent memory as it was.
  *
  * Prints a line for each case: what is wrong, and for each call its answer, field by field, and whether it touched lent memory.
  * refusals.out has these lines, worked out by hand. example.c, beside this, shows what the calls are for. */
@@ -121,13 +121,22 @@ static void print_answer(const char *call, struct kagyurma_answered answer)
     printf("; %s %" PRIu32 " %" PRIu32 " %" PRIu32 " %s", call, answer.number, answer.at, answer.length, left());
 }
 
-/* Puts a file to the three calls. */
+static void print_explained(struct kagyurma_explained answer)
+{
+    printf("; explain %" PRIu32 " %" PRIu32 " %" PRIu32 " %" PRIu32 " %" PRIu32 " %" PRIu32 " %s", answer.number, answer.at,
+           answer.cost, answer.bytes, answer.place, answer.count, left());
+}
+
+/* Puts a file to the four calls. */
 static void call(const char *what, const uint8_t *file, size_t length, struct sizes sizes)
 {
     fill();
     const struct kagyurma_ran ran = kagyurma_run(file, length, sizes.budget, lent.amounts, sizes.amounts, lent.presence,
                                                  sizes.presence, lent.labels, sizes.labels, lent.trace, sizes.trace);
     printf("%s: run %" PRIu32 " %" PRIu32 " %" PRIu32 " %" PRIu32 " %s", what, ran.number, ran.at, ran.cost, ran.bytes, left());
+    fill();
+    print_explained(kagyurma_explain(file, length, sizes.budget, lent.amounts, sizes.amounts, lent.presence, sizes.presence,
+                                     lent.labels, sizes.labels, lent.trace, sizes.trace));
     fill();
     print_answer("load", kagyurma_load(file, length, lent.amounts, sizes.amounts, lent.presence, sizes.presence, lent.labels,
                                        sizes.labels));

@@ -16,17 +16,36 @@ const TRACE_READ_REVOKED: u8 = 4;
 const TRACE_WRITE_REVOKED: u8 = 5;
 
 /// Why and at which node a run stopped.
-#[derive(Clone, Copy)]
 pub(crate) struct Stop {
     pub(crate) number: u32,
     pub(crate) node: u16,
+    /// Boxed, as every command and expression has room for a stop.
+    pub(crate) flow: Box<Flow>,
+}
+
+/// The sets of a failed test on labels, as they were at the stop; both are
+/// empty for any other stop.
+#[derive(Default)]
+pub(crate) struct Flow {
+    pub(crate) tested: Places,
+    pub(crate) bound: Places,
+}
+
+impl Stop {
+    fn without_flow(number: u32, node: u16) -> Stop {
+        Stop {
+            number,
+            node,
+            flow: Box::default(),
+        }
+    }
 }
 
 fn require(condition: bool, number: u32, node: u16) -> Result<(), Stop> {
     if condition {
         return Ok(());
     }
-    Err(Stop { number, node })
+    Err(Stop::without_flow(number, node))
 }
 
 /// A value with the places it may depend on.
@@ -393,9 +412,22 @@ impl<'a> Interpreter<'a> {
     }
 
     /// A test on labels, which the run with no labels omits.
-    fn require_flow(&self, from: &Places, to: &Places, number: u32, node: u16) -> Result<(), Stop> {
-        let omitted = self.tests == Tests::Unlabelled;
-        require(omitted || from.within(to), number, node)
+    fn require_flow(
+        &self,
+        tested: &Places,
+        bound: &Places,
+        number: u32,
+        node: u16,
+    ) -> Result<(), Stop> {
+        if self.tests == Tests::Unlabelled || tested.within(bound) {
+            return Ok(());
+        }
+        let (tested, bound) = (*tested, *bound);
+        Err(Stop {
+            number,
+            node,
+            flow: Box::new(Flow { tested, bound }),
+        })
     }
 
     /// Adds one record to the trace, if it fits whole.
@@ -443,10 +475,7 @@ impl Write {
 }
 
 fn in_32_bits(exact: i64, label: Places, number: u16) -> Result<Labelled, Stop> {
-    let value = i32::try_from(exact).map_err(|_| Stop {
-        number: 22,
-        node: number,
-    })?;
+    let value = i32::try_from(exact).map_err(|_| Stop::without_flow(22, number))?;
     Ok(Labelled { value, label })
 }
 

@@ -7,7 +7,7 @@ use reference::format_cases;
 use reference::notation;
 use reference::run::on_deep_stack;
 use reference::run_cases;
-use reference::run_list::run_list;
+use reference::run_list::{explain_list, run_list};
 use std::env;
 use std::ffi::OsString;
 use std::fs;
@@ -15,9 +15,10 @@ use std::io::{self, Read, Write};
 use std::path::Path;
 use std::process::ExitCode;
 
-const USAGE: &str = "usage: reference run|assemble|list [FILE]
+const USAGE: &str = "usage: reference run|explain|assemble|list [FILE]
        reference cases|deepest|edges FOLDER
   run       run the book in FILE, or in standard input, and list what it does
+  explain   do the same, and name the place for which a test on labels failed
   assemble  write the book that a text describes
   list      write the text that describes a book
   cases     write cases for readers, writers and runners of books to FOLDER/stdin,
@@ -26,7 +27,7 @@ const USAGE: &str = "usage: reference run|assemble|list [FILE]
   edges     write books at the edges of what `run` allows to FOLDER";
 
 /// Exit code for a text with a fault and for a book that is refused. Only `run`
-/// lists a refused book, or one that stops, with exit code 0.
+/// and `explain` list a refused book, or one that stops, with exit code 0.
 const BAD_INPUT: u8 = 1;
 
 /// Exit code for a command line that makes no sense or a file that cannot be
@@ -75,7 +76,8 @@ fn dispatch(arguments: &[OsString]) -> Result<(), Failure> {
         _ => return Err(USAGE.to_string().into()),
     };
     match command.to_str() {
-        Some("run") => run(file),
+        Some("run") => print_list(file, run_list),
+        Some("explain") => print_list(file, explain_list),
         Some("assemble") => assemble(file),
         Some("list") => list(file),
         Some("cases") => write_cases(file),
@@ -88,9 +90,9 @@ fn dispatch(arguments: &[OsString]) -> Result<(), Failure> {
     }
 }
 
-fn run(file: Option<&Path>) -> Result<(), Failure> {
+fn print_list(file: Option<&Path>, list: fn(&[u8]) -> String) -> Result<(), Failure> {
     let book = input(file)?;
-    let text = on_deep_stack(|| run_list(&book));
+    let text = on_deep_stack(|| list(&book));
     print(text.as_bytes())
 }
 

@@ -71,6 +71,11 @@ impl Places {
         self.add(other);
         self
     }
+
+    /// The members, rising.
+    pub fn members(&self) -> impl Iterator<Item = usize> + '_ {
+        (0..512).filter(|&place| self.holds(place))
+    }
 }
 
 #[cfg(test)]
@@ -114,5 +119,12 @@ mod tests {
         let mut rest = both;
         rest.remove(&low);
         assert_eq!(rest, Places::single(511));
+    }
+
+    #[test]
+    fn members_rise() {
+        assert_eq!(Places::EMPTY.members().next(), None);
+        let set = Places([1 << 63, 5, 0, 0, 0, 0, 0, 1 << 63]);
+        assert_eq!(set.members().collect::<Vec<_>>(), [63, 64, 66, 511]);
     }
 }

@@ -2,7 +2,7 @@
 
 use crate::book::{Book, Refusal};
 use crate::interpreter::{Interpreter, Stop};
-use crate::places::place;
+use crate::places::{place, Places};
 use std::thread;
 
 const MOST_BUDGET: u32 = 1_000_000;
@@ -79,6 +79,43 @@ pub enum Answer {
     },
 }
 
+impl Answer {
+    pub fn number(&self) -> u32 {
+        match *self {
+            Answer::Refused(refusal) => refusal.number,
+            Answer::Ended { number, .. } => number,
+        }
+    }
+}
+
+/// The answer of a run, and why a test on labels stopped it.
+#[derive(Clone, Copy, Debug, PartialEq, Eq)]
+pub struct Explained {
+    pub answer: Answer,
+    /// The places of the tested set that the set it had to lie within lacked at
+    /// the stop. Empty for every answer but 25, 26, 27 and 29.
+    pub lacking: Places,
+}
+
+impl Explained {
+    fn without_reason(answer: Answer) -> Explained {
+        Explained {
+            answer,
+            lacking: Places::EMPTY,
+        }
+    }
+
+    /// The lowest of the places.
+    pub fn place(&self) -> Option<usize> {
+        self.lacking.members().next()
+    }
+
+    /// How many places there are.
+    pub fn count(&self) -> usize {
+        self.lacking.members().count()
+    }
+}
+
 const REFUSED_1: Refusal = Refusal {
     number: 1,
     index: 0,
@@ -96,23 +133,40 @@ pub fn load(file: &[u8], memory: &mut Memory) -> Result<Book, Refusal> {
 
 /// Runs a book. A refusal leaves all of `memory` as it was.
 pub fn run(file: &[u8], budget: u32, memory: &mut Memory, tests: Tests) -> Answer {
+    carry_out(file, budget, memory, tests).answer
+}
+
+/// Runs a book in the same way, with labels, and tells why a test on them
+/// stopped it.
+pub fn explain(file: &[u8], budget: u32, memory: &mut Memory) -> Explained {
+    carry_out(file, budget, memory, Tests::Labelled)
+}
+
+fn carry_out(file: &[u8], budget: u32, memory: &mut Memory, tests: Tests) -> Explained {
     if budget > MOST_BUDGET {
-        return Answer::Refused(REFUSED_1);
+        return Explained::without_reason(Answer::Refused(REFUSED_1));
     }
     let book = match load(file, memory) {
         Ok(book) => book,
-        Err(refusal) => return Answer::Refused(refusal),
+        Err(refusal) => return Explained::without_reason(Answer::Refused(refusal)),
     };
     let mut interpreter = Interpreter::new(&book, memory, budget, tests);
-    let (number, node) = match interpreter.programs() {
-        Ok(()) => (0, 0),
-        Err(Stop { number, node }) => (number, u32::from(node)),
+    let (number, node, lacking) = match interpreter.programs() {
+        Ok(()) => (0, 0, Places::EMPTY),
+        Err(Stop { number, node, flow }) => {
+            let mut lacking = flow.tested;
+            lacking.remove(&flow.bound);
+            (number, u32::from(node), lacking)
+        }
     };
-    Answer::Ended {
-        number,
-        node,
-        cost: interpreter.cost(),
-        bytes: interpreter.bytes() as u32,
+    Explained {
+        answer: Answer::Ended {
+            number,
+            node,
+            cost: interpreter.cost(),
+            bytes: interpreter.bytes() as u32,
+        },
+        lacking,
     }
 }
 

@@ -3,6 +3,7 @@
 
 mod contexts;
 mod deep;
+mod explanations;
 mod files;
 mod firing;
 mod full_traces;
@@ -20,9 +21,10 @@ mod sweeps;
 mod values;
 mod views;
 
-pub use outcome::Outcome;
+pub use outcome::{ExplainedOutcome, Outcome};
 
 use crate::case_lines::{Entry, Task};
+use crate::run::Answer;
 
 /// Lengths of lent memory.
 #[derive(Clone, Copy, Debug, PartialEq, Eq)]
@@ -75,6 +77,14 @@ impl Case {
         let lent = Lent::with_trace(trace);
         Case { lent, ..self }
     }
+
+    /// The cost and the trace bytes of its run.
+    fn spent(&self) -> (u32, u32) {
+        match Outcome::of(self).answer {
+            Answer::Ended { cost, bytes, .. } => (cost, bytes),
+            Answer::Refused(_) => (0, 0),
+        }
+    }
 }
 
 /// All cases, the same at every call. Each has its number as its seed.
@@ -95,6 +105,7 @@ pub fn all() -> Vec<Case> {
         succession::cases(),
         sample::cases(),
         deep::cases(),
+        explanations::cases(),
     ]
     .concat();
     for (number, case) in cases.iter_mut().enumerate() {
@@ -124,6 +135,6 @@ pub fn stream(cases: &[Case]) -> Vec<u8> {
 pub fn answers(cases: &[Case]) -> String {
     cases
         .iter()
-        .map(|case| format!("{}\n", Outcome::of(case)))
+        .map(|case| format!("{} {}\n", Outcome::of(case), ExplainedOutcome::of(case)))
         .collect()
 }

@@ -1,6 +1,6 @@
 //! A run as lines of text.
 
-use crate::run::{run, Answer, Memory, Tests};
+use crate::run::{explain, run, Answer, Explained, Memory, Tests};
 use std::fmt::Write;
 
 const BUDGET: u32 = 100_000;
@@ -12,6 +12,21 @@ pub fn run_list(file: &[u8]) -> String {
     let mut memory = Memory::new(TRACE);
     let answer = run(file, BUDGET, &mut memory, Tests::Labelled);
     lines(&answer, &memory.trace)
+}
+
+/// The same text, and a line for why a test on labels stopped the run.
+pub fn explain_list(file: &[u8]) -> String {
+    let mut memory = Memory::new(TRACE);
+    let explained = explain(file, BUDGET, &mut memory);
+    lines(&explained.answer, &memory.trace) + &reason(&explained)
+}
+
+fn reason(explained: &Explained) -> String {
+    let place = match explained.place() {
+        Some(place) => format!("{} {} {}", place / 64, place / 8 % 8, place % 8),
+        None => "none".to_string(),
+    };
+    format!("place {place} count {}\n", explained.count())
 }
 
 /// The text for an answer and the trace buffer of its run.

@@ -6,17 +6,22 @@ mod support;
 use reference::book::Refusal;
 use reference::generate;
 use reference::random::Random;
-use reference::run::{on_deep_stack, run, Answer, Tests};
+use reference::run::{explain, on_deep_stack, run, Answer, Tests};
 use std::ops::Range;
 use support::coverage::Coverage;
 use support::pairs::Pairs;
+use support::reasons::Reasons;
 use support::singles::Singles;
-use support::Lent;
+use support::{is_for_labels, Lent};
 
-/// Pairs and single books for each test function. There are four of each, so
-/// that two processors can share them.
-const PAIRS: u64 = 60_000;
+/// Books to be paired and single books for each test function. There are four of
+/// each, so that two processors can share them.
+const PAIRED: u64 = 60_000;
 const SINGLES: u64 = 52_000;
+
+/// Pairs for each test function of which a test on labels stops at least one:
+/// 200,000 in all four.
+const PAIRS_STOPPED_FOR_LABELS: usize = 50_000;
 
 /// Tries every seed; then tells how many failed, and the first of them whole.
 fn try_seeds(seeds: Range<u64>, mut check: impl FnMut(u64) -> Result<(), String>) {
@@ -47,12 +52,15 @@ fn demand_coverage(coverage: &Coverage) {
 fn demand_3(part: u64) {
     on_deep_stack(|| {
         let mut pairs = Pairs::new();
-        try_seeds(part * PAIRS..(part + 1) * PAIRS, |seed| pairs.check(seed));
+        try_seeds(part * PAIRED..(part + 1) * PAIRED, |seed| pairs.check(seed));
         demand_coverage(&pairs.coverage);
         let count = pairs.coverage.runs;
         assert!(pairs.finished_with_trace > count / 8);
         assert!(pairs.stopped_with_trace > count / 12);
         assert!(pairs.diverged > count / 70);
+        let (tried, for_labels) = (pairs.tried, pairs.stopped_for_labels);
+        println!("{tried} pairs, of which {for_labels} stopped for labels");
+        assert!(for_labels >= PAIRS_STOPPED_FOR_LABELS);
     });
 }
 
@@ -109,32 +117,88 @@ fn demand_2_part_3() {
     demand_2(3);
 }
 
+/// The place that an explanation names is a true reason.
+#[test]
+fn reasons_are_true() {
+    on_deep_stack(|| {
+        let mut reasons = Reasons::default();
+        // Other seeds than those of the pairs and of the single books.
+        let first = 2 << 32;
+        try_seeds(first..first + 20_000, |seed| reasons.check(seed));
+        assert!(reasons.made_public >= 1_500, "{reasons:?}");
+        assert!(reasons.in_memory >= 1_500, "{reasons:?}");
+        assert!(reasons.told >= 2_000, "{reasons:?}");
+    });
+}
+
+/// Explaining answers and leaves what running does.
+#[test]
+fn explaining_is_running() {
+    on_deep_stack(|| {
+        let mut numbers = [0; 31];
+        try_seeds(0..20_000, |seed| {
+            let mut random = Random::new(seed);
+            let mut lent = Lent::new();
+            let (file, budget) = match random.chance(50) {
+                true => often_refused(&mut random, &mut lent),
+                false => ample(&mut random, &mut lent),
+            };
+            let mut memory = lent.memory.clone();
+            let answer = run(&file, budget, &mut lent.memory, Tests::Labelled);
+            let explained = explain(&file, budget, &mut memory);
+            if explained.answer != answer || memory != lent.memory {
+                return Err(format!("{explained:?} after {answer:?}"));
+            }
+            numbers[answer.number() as usize] += 1;
+            match explained.place().is_some() == is_for_labels(answer.number()) {
+                true => Ok(()),
+                false => Err(format!("{explained:?}")),
+            }
+        });
+        for number in (0..=10).chain(21..=30) {
+            let count = numbers[number];
+            assert!(count >= 20, "answer {number} came {count} times");
+        }
+    });
+}
+
+/// A book's file and budget, and memory that is lent to it.
+fn ample(random: &mut Random, lent: &mut Lent) -> (Vec<u8>, u32) {
+    lent.soil(random, 500);
+    (generate::book(random).encode(), 2_500)
+}
+
+/// The same, where the file is damaged and a length or the budget may be off.
+fn often_refused(random: &mut Random, lent: &mut Lent) -> (Vec<u8>, u32) {
+    let book = generate::book(random);
+    let file = generate::damaged(random, &book);
+    lent.soil(random, 64);
+    // A book that is accepted after all need not run far.
+    let budget = random.pick(&[100, 100, 1_000_001]);
+    match random.below(20) {
+        0 => lent.memory.amounts.truncate(511),
+        1 => lent.memory.presence.push(0),
+        2 => lent.memory.labels.truncate(4_088),
+        3 => lent.memory.trace.resize(65_537, 7),
+        _ => {}
+    }
+    (file, budget)
+}
+
 /// A refused file, length or budget leaves all that was lent as it was.
 #[test]
 fn refusals_leave_memory_alone() {
-    let mut lent = Lent::new();
     let mut numbers = [0; 11];
     try_seeds(0..20_000, |seed| {
-        let mut random = Random::new(seed);
-        let book = generate::book(&mut random);
-        let file = generate::damaged(&mut random, &book);
-        lent.soil(&mut random, 64);
-        // A book that is accepted after all need not run far.
-        let budget = random.pick(&[100, 100, 1_000_001]);
-        match random.below(20) {
-            0 => lent.memory.amounts.truncate(511),
-            1 => lent.memory.presence.push(0),
-            2 => lent.memory.labels.truncate(4_088),
-            3 => lent.memory.trace.resize(65_537, 7),
-            _ => {}
-        }
+        let mut lent = Lent::new();
+        let (file, budget) = often_refused(&mut Random::new(seed), &mut lent);
         let before = lent.memory.clone();
         let answer = run(&file, budget, &mut lent.memory, Tests::Labelled);
-        let same = lent.memory == before;
-        lent = Lent::new();
         match answer {
-            Answer::Refused(Refusal { number, .. }) if same => numbers[number as usize] += 1,
-            Answer::Refused(refusal) => return Err(format!("memory changed: {refusal:?}")),
+            Answer::Refused(refusal) if lent.memory != before => {
+                return Err(format!("memory changed: {refusal:?}"));
+            }
+            Answer::Refused(Refusal { number, .. }) => numbers[number as usize] += 1,
             Answer::Ended { .. } => {}
         }
         Ok(())

@@ -50,10 +50,24 @@ fn run_lists_a_book_from_a_file() {
 }
 
 #[test]
-fn a_refused_book_is_listed() {
-    let output = reference(&["run".as_ref()], b"");
-    assert_eq!(output.stdout, b"refused 2 0\n");
+fn explain_adds_a_line() {
+    let output = reference(&["explain".as_ref()], &book_w().encode());
+    let expected = b"out 1 250\nstop 27 7 19\nplace 0 2 0 count 8\n";
+    assert_eq!(output.stdout, expected);
+    assert_eq!(output.stderr, b"");
     assert_eq!(output.status.code(), Some(0));
+}
+
+#[test]
+fn a_refused_book_is_listed() {
+    for (command, expected) in [
+        ("run", "refused 2 0\n"),
+        ("explain", "refused 2 0\nplace none count 0\n"),
+    ] {
+        let output = reference(&[command.as_ref()], b"");
+        assert_eq!(output.stdout, expected.as_bytes());
+        assert_eq!(output.status.code(), Some(0));
+    }
 }
 
 #[test]
@@ -72,7 +86,7 @@ fn cases_go_to_a_folder() {
     let fields: Vec<usize> = stdout.lines().map(|line| line.split(' ').count()).collect();
     let (format_lines, run_lines) = fields.split_at(format.len());
     assert!(format_lines.iter().all(|&fields| fields == 9));
-    assert!(run_lines.iter().all(|&fields| fields == 8));
+    assert!(run_lines.iter().all(|&fields| fields == 18));
     assert_eq!(run_lines.len(), run.len());
     assert_eq!(output.stdout, b"");
     assert_eq!(output.status.code(), Some(0));
@@ -81,7 +95,7 @@ fn cases_go_to_a_folder() {
 #[test]
 fn a_missing_file_is_named() {
     let path = temporary("missing");
-    for command in ["run", "cases"] {
+    for command in ["run", "explain", "cases"] {
         let output = reference(&[command.as_ref(), &path], b"");
         let message = String::from_utf8(output.stderr).unwrap();
         assert!(message.contains(path.to_str().unwrap()), "{message}");
@@ -92,11 +106,12 @@ fn a_missing_file_is_named() {
 
 #[test]
 fn other_command_lines_show_the_usage() {
-    let lines: [&[&Path]; 4] = [
+    let lines: [&[&Path]; 5] = [
         &[],
         &["unknown".as_ref()],
         &["cases".as_ref()],
         &["run".as_ref(), "one".as_ref(), "two".as_ref()],
+        &["explain".as_ref(), "one".as_ref(), "two".as_ref()],
     ];
     for arguments in lines {
         let output = reference(arguments, b"");

@@ -36,7 +36,7 @@ pub fn act(
         17 => assignments::assign(code, n, ctx, vars, tags, cells, sets, run),
         23 => outputs::out(code, n, ctx, vars, tags, cells, sets, run, trace),
         24 | 25 => grants::change(code, n, who, ctx, sets, run, trace),
-        26 => assignments::raise(code, n, ctx, tags, run),
+        26 => assignments::raise(code, n, ctx, tags, sets, run),
         _ => Outcome::Done,
     }
 }

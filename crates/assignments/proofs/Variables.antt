@@ -1,13 +1,13 @@
 -- The ways through an assignment and a raise: the expression stops, the context is not within the old label, the variable is set.
 -- Assumes nothing.
-use mathlib.Core.Path.{_≡_, sym, ap, _∙_}
+use mathlib.Core.Path.{_≡_, refl, sym, ap, _∙_}
 use mathlib.Core.List.{List, []}
 use mathlib.Core.Bool.{true, false}
 use Prim.Native.Nat.{ℕ, _+_, _*_, _≤_, _<_}
 use native.Mathlib.Omega.{arith}
 use lib.IntN.{ℤ}
 use lib.ListN.{length, set}
-use Rattle.places.specs.Sets.{union, difference, within}
+use Rattle.places.specs.Sets.{union, within}
 use Rattle.book.specs.Bytes.{byte, le16}
 use Rattle.book.specs.Kinds as sorts
 use Rattle.book.specs.Records.{NodeRecord}
@@ -17,14 +17,14 @@ use Rattle.monitor.specs.Run.{done, _>>=_, inside, update, set-var}
 use Rattle.monitor.specs.Syntax.{assign, raise, cmd-of}
 use Rattle.monitor.specs.Rules.{region-places, command}
 use Rattle.machine.specs.Script.{script-of, Runnable, Node}
-use Rattle.machine.specs.Store.{row-at, cells-held, vars-of, used-of, Store, state}
-use Rattle.machine.specs.Promises.{Stops, Gives, Evaluates, Does, Commands, Who}
+use Rattle.machine.specs.Store.{row-at, cells-held, vars-of, used-of, Store, store, state}
+use Rattle.machine.specs.Promises.{Stops, Compares, Gives, Evaluates, Does, Commands, Who}
 use Rattle.machine.specs.declared.Value.{Value}
 use Rattle.machine.specs.declared.Value.the-variants as value
 use Rattle.machine.specs.declared.Outcome.{Outcome}
 use Rattle.machine.specs.declared.Outcome.the-variants.{Done, Stopped}
 use Rattle.machine.proofs.Nodes.{command-is, read-at, assign-p, assign-a, raise-p, raise-a}
-use Rattle.machine.proofs.Runs.{guard-true, guard-false, with-run, does-as, stops-on, sets-vars, value-stops, value-goes}
+use Rattle.machine.proofs.Runs.{guard-true, guard-false, with-run, does-as, stops-outside, sets-vars, value-stops, value-goes}
 use Rattle.machine.proofs.Stores.{vars-stored, label-stored}
 
 -- ---- what the code reads
@@ -49,10 +49,11 @@ module _ (code : List ℕ) (n : ℕ) where
 -- ---- a variable
 
 module _ (n : ℕ) (ctx : Label) (p : ℕ) (new : Lab ℤ → Lab ℤ) (vars : List ℤ) (tags : List (List ℕ)) {x : Store} (u : used-of (x .run) ≤ length (x .trace)) where
-  keeps-var : {r : Outcome} {run : List ℕ} → within ctx (row-at tags p) ≡ false → (r ≡ Stopped) × Stops (x .run) 25 n run
-      → Does (λ fuel. set-var true n ctx p new) (vars-of vars tags) x r (vars-of vars tags) (with-run x run)
+  keeps-var : {r : Outcome} {run : List ℕ} {sets : List (List ℕ)} → within ctx (row-at tags p) ≡ false
+      → (r ≡ Stopped) × Stops (x .run) 25 n run × Compares (x .sets) (record { tested = ctx; bound = row-at tags p }) sets
+      → Does (λ fuel. set-var true n ctx p new) (vars-of vars tags) x r (vars-of vars tags) (store (x .amounts) sets run (x .trace))
   unfolding set-var vars-of
-  keeps-var h s = rw (s .0) (stops-on u (difference ctx (row-at tags p)) (s .1)
+  keeps-var h s = rw (s .0) (stops-outside u refl (s .1) (s .2)
       (λ fuel _. guard-false (λ s. inside true ctx (s .vars p .lab)) 25 n _ (state (vars-of vars tags) x) h))
 
   sets-var : {vars' : ℕ → Lab ℤ} → within ctx (row-at tags p) ≡ true → vars' ≡ update (vars-of vars tags) p (new (vars-of vars tags p))
@@ -86,7 +87,9 @@ module _ (code : List ℕ) (ctx : Label) (n : ℕ) (who : Who) (vars : List ℤ)
           → Ends r vars' x'
       goes t = does-as (as-assign p (ep ∙ read-at code (g .0) n (g .1 .inside) .p)) (value-goes d (λ _ y. set-var true n ctx p (λ old. under ctx y)) z e t)
 
-      pub assign-keeps : {r : Outcome} {run' : List ℕ} → within ctx (row-at tags p) ≡ false → (r ≡ Stopped) × Stops run 25 n run' → Ends r (vars-of vars tags) (with-run x run')
+      pub assign-keeps : {r : Outcome} {run' : List ℕ} {sets : List (List ℕ)} → within ctx (row-at tags p) ≡ false
+          → (r ≡ Stopped) × Stops run 25 n run' × Compares (x .sets) (record { tested = ctx; bound = row-at tags p }) sets
+          → Ends r (vars-of vars tags) (store (x .amounts) sets run' (x .trace))
       assign-keeps h s = goes (keeps-var n ctx p (λ old. under ctx _) vars tags (omega (arith, d .used-same, u)) h s)
 
       pub assign-sets : length vars ≡ 16 → length tags ≡ 16 → within ctx (row-at tags p) ≡ true → Ends Done (vars-of (set vars p z) (set tags p label)) (with-run x run)
@@ -105,7 +108,9 @@ module _ (code : List ℕ) (ctx : Label) (n : ℕ) (who : Who) (vars : List ℤ)
     unfolding command cmd-of
     as-raise fuel = command-is code ctx who n {y = raise (node .p) (node .a)} (rw (g .2)) fuel ∙ rw (ep, read-at code (g .0) n (g .1 .inside) .p)
 
-    pub raise-keeps : {r : Outcome} {run : List ℕ} → within ctx (row-at tags p) ≡ false → (r ≡ Stopped) × Stops (x .run) 25 n run → Ends r (vars-of vars tags) (with-run x run)
+    pub raise-keeps : {r : Outcome} {run : List ℕ} {sets : List (List ℕ)} → within ctx (row-at tags p) ≡ false
+        → (r ≡ Stopped) × Stops (x .run) 25 n run × Compares (x .sets) (record { tested = ctx; bound = row-at tags p }) sets
+        → Ends r (vars-of vars tags) (store (x .amounts) sets run (x .trace))
     raise-keeps h s = does-as as-raise (keeps-var n ctx p raising vars tags u h s)
 
     pub raise-sets : length tags ≡ 16 → within ctx (row-at tags p) ≡ true → {label : Label} → label ≡ union (row-at tags p) (region-places (script-of code) (le16 code (16 * n + 2)))

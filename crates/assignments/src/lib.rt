@@ -23,13 +23,13 @@ pub fn assign(
     vars: &mut [i32; 16],
     tags: &mut [[u64; 8]; 16],
     cells: &[i32; 512],
-    sets: &Sets,
+    sets: &mut Sets,
     run: &mut Run,
 ) -> Outcome
     requires { ⌜ Runnable (now code) × Node command (script-of (now code)) n × (node-at (script-of (now code)) n .kind ≡ 17) ⌝ }
     ensures { λ r. ⌜ ((who : Who) (trace : List ℕ) → used-of (now (run .entry)) ≤ length trace → Does (Commands (now (code .entry)) (now (ctx .entry)) who n)
         (vars-of (now (vars .entry)) (now (tags .entry))) (store (now (cells .entry)) (now (sets .entry)) (now (run .entry)) trace) r
-        (vars-of (now (vars .exit)) (now (tags .exit))) (store (now (cells .entry)) (now (sets .entry)) (now (run .exit)) trace)) ⌝ }
+        (vars-of (now (vars .exit)) (now (tags .exit))) (store (now (cells .entry)) (now (sets .exit)) (now (run .exit)) trace)) ⌝ }
 {
     let values: &[i32] = vars;
     let labels: &[[u64; 8]] = tags;
@@ -45,7 +45,7 @@ pub fn assign(
     let old = tags[p];
     let fine = places::within(context, old);
     if !fine {
-        return machine::stop(run, 25, n);
+        return machine::stop_outside(run, sets, 25, n, ctx, &tags[p]);
     }
     vars[p] = amount;
     tags[p] = label;
@@ -58,24 +58,25 @@ pub fn raise(
     n: usize,
     ctx: &[u64; 8],
     tags: &mut [[u64; 8]; 16],
+    sets: &mut Sets,
     run: &mut Run,
 ) -> Outcome
     requires { ⌜ Runnable (now code) × Node command (script-of (now code)) n × (node-at (script-of (now code)) n .kind ≡ 26) ⌝ }
-    ensures { λ r. ⌜ ((who : Who) (vars cells : List ℤ) (sets : List (List ℕ)) (trace : List ℕ) → used-of (now (run .entry)) ≤ length trace
+    ensures { λ r. ⌜ ((who : Who) (vars cells : List ℤ) (trace : List ℕ) → used-of (now (run .entry)) ≤ length trace
         → Does (Commands (now (code .entry)) (now (ctx .entry)) who n)
-        (vars-of vars (now (tags .entry))) (store cells sets (now (run .entry)) trace) r
-        (vars-of vars (now (tags .exit))) (store cells sets (now (run .exit)) trace)) ⌝ }
+        (vars-of vars (now (tags .entry))) (store cells (now (sets .entry)) (now (run .entry)) trace) r
+        (vars-of vars (now (tags .exit))) (store cells (now (sets .exit)) (now (run .exit)) trace)) ⌝ }
 {
     let labels: &[[u64; 8]] = tags;
     let at = 16 * n;
     let p = numbers::byte_at(code, at + 1);
     let context = *ctx;
-    let old = tags[p];
-    let inside = places::within(context, old);
+    let held = tags[p];
+    let inside = places::within(context, held);
     if !inside {
-        return machine::stop(run, 25, n);
+        return machine::stop_outside(run, sets, 25, n, ctx, &held);
     }
     let region = machine::region_places(code, numbers::u16_at(code, at + 2));
-    tags[p] = places::union(old, region);
+    tags[p] = places::union(held, region);
     Outcome::Done
 }

@@ -76,7 +76,7 @@ unfolding guard
 keeps-guard {A} x n i {m} l h = λ s. go s (x s .passes) refl
   where
     go : (s : State) (y : Bool) → x s .passes ≡ y
-        → Within {A = A} (s .room) (elim y [ true ↦ m s | false ↦ stop [] (record { number = n; node = i; obstacle = x s .obstacle }) s ])
+        → Within {A = A} (s .room) (elim y [ true ↦ m s | false ↦ stop [] (record { number = n; node = i; compared = x s .compared }) s ])
     go s true e = h s e
     go s false e = stands l
 

@@ -1,7 +1,8 @@
--- What running gives C: the numbers of the runner's answer, which fit 32 bits. Assumes nothing.
+-- What running and naming the cell give C: the numbers of the answers, which fit 32 bits. Assumes nothing.
 use mathlib.Core.Path.{_≡_, refl, ap}
 use mathlib.Core.List.{List}
 use mathlib.Core.Bool.{true}
+use mathlib.Core.Option.{some}
 use Prim.Native.Nat.{ℕ, _/_, _≤_, _<_}
 use native.Mathlib.Omega.{arith}
 use lib.Dec.{eqb, leb, lit<, lit≤}
@@ -14,11 +15,17 @@ use Rattle.book.proofs.Chains.{both}
 use Rattle.book.proofs.Verdicts.{accepts-both, need-accepts}
 use Rattle.monitor.specs.Run.{Out}
 use Rattle.monitor.specs.Call.{Memory, Result, values, script, start-state, run-book, call-verdict, result-of, answered, call}
+use Rattle.monitor.specs.Explain.{ExplainResult}
+use Rattle.monitor.specs.Explain as tool
 use Rattle.monitor.specs.declared.Answer.{Answer}
 use Rattle.monitor.specs.declared.Values.{Values}
-use Rattle.capi.specs.Calls.{ran, run-numbers, run-call}
+use Rattle.counting.specs.Named.{named}
+use Rattle.entry.specs.Explain.{Explains}
+use Rattle.entry.specs.declared.Explained.{Explained}
+use Rattle.entry.proofs.Reasons.{true-reason}
+use Rattle.capi.specs.Calls.{ran, run-numbers, run-call, place-number, explain-numbers, explain-call}
 use Rattle.capi.proofs.Indexes.{Low, low-need, low-then, low-verdict}
-use Rattle.capi.proofs.Fields.{named}
+use Rattle.capi.proofs.Fields as fields
 use Rattle.capi.proofs.Bounds.{Within, ends, halts, keeps-run}
 use Rattle.book.specs.declared.Verdict.the-variants as verdicts
 
@@ -44,7 +51,7 @@ module _ (file : List ℕ) (budget : ℕ) (m : Memory) where
       let labels = both (eqb (length (m .labels)) 4096) _ (presence .1) in
       let trace = both (leb (length (m .trace)) 65536) _ (labels .1) in
       small-result budget m (leb-true _ _ (trace .0))
-      (keeps-run (script (decode file)) (named file (passed .1)) true budget (start-state (decode file) budget (length (m .trace) / 8)))
+      (keeps-run (script (decode file)) (fields.named file (passed .1)) true budget (start-state (decode file) budget (length (m .trace) / 8)))
 
   call-small : Small (values (call true file budget m .answer))
   unfolding call call-verdict
@@ -59,3 +66,17 @@ module _ (file : List ℕ) (budget : ℕ) (m : Memory) where
     run-small =
         let same : a ≡ call true file budget m .answer = ap (λ (r : Result). r .answer) e in
         rw (q, same) call-small
+
+  -- the tool that names the cell
+  module _ (r : Explained) (after : Memory) (e : Explains file budget m r after) (v : Values) (q : v ≡ values (r .answer)) where
+    pub explain-told : {place : ℕ} → place ≡ place-number (named (r .place))
+        → record { answer = record { number = v .number; at = v .at; cost = v .cost; bytes = v .bytes; place = place; count = r .count }; memory = after } ≡ explain-call file budget m
+    unfolding explain-call explain-numbers
+    explain-told p = rw (q, p) (ap explain-numbers e)
+
+    pub explain-small : Small v
+    unfolding tool.explain-call
+    explain-small = run-small (r .answer) after (ap (λ (x : ExplainResult). x .result) e) v q
+
+    pub explain-place : (p : ℕ) → named (r .place) ≡ some p → p < 512
+    explain-place p n = true-reason file budget m after r e .reason p n .place

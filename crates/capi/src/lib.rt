@@ -1,7 +1,10 @@
-// The runner, the loader and the writer for C and Rust. include/kagyurma.h declares them.
+// The runner, the tool that names the cell, the loader and the writer for C and Rust. include/kagyurma.h declares them.
+use counting::LowestMember;
 ghost use mathlib.Core.Path.{_≡_};
-ghost use Prim.Native.Nat.{_≤_, _<_};
-ghost use Rattle.capi.specs.Calls.{run-call, load-call, write-call};
+ghost use mathlib.Core.Option.{some};
+ghost use Prim.Native.Nat.{ℕ, _≤_, _<_};
+ghost use Rattle.counting.specs.Named.{named};
+ghost use Rattle.capi.specs.Calls.{run-call, place-number, explain-call, load-call, write-call};
 
 // How a run ended: the paper's number, 0 if it finished; the node of a stop or the index of a refusal; the cost spent and the
 // trace bytes written.
@@ -11,6 +14,18 @@ pub struct Ran {
     pub at: u32,
     pub cost: u32,
     pub bytes: u32,
+}
+
+// How an explained run ended: as a run, and of a stop about labels the lowest place in its way and how many there are. The header calls 512
+// `KAGYURMA_NO_PLACE`.
+#[repr(C)]
+pub struct RanExplained {
+    pub number: u32,
+    pub at: u32,
+    pub cost: u32,
+    pub bytes: u32,
+    pub place: u32,
+    pub count: u32,
 }
 
 // How loading or writing ended: the refusal's number, 0 if there was none, and its index; the bytes written, 0 for a load.
@@ -54,6 +69,45 @@ pub extern "C" fn kagyurma_run(
         at: values.at as u32,
         cost: values.cost,
         bytes: values.bytes as u32,
+    }
+}
+
+// The number of a place, or 512 where there is none.
+fn place_number(place: LowestMember) -> u32
+    requires { ⌜ ((p : ℕ) → named place ≡ some p → p < 512) ⌝ }
+    ensures { λ r. ⌜ r ≡ place-number (named place) ⌝ }
+{
+    match place {
+        LowestMember::Place(p) => p as u32,
+        LowestMember::None => 512,
+    }
+}
+
+// Runs the book in a file in lent memory, and names the cell in the way of its stop.
+#[no_mangle]
+pub extern "C" fn kagyurma_explain(
+    file: &[u8],
+    budget: u32,
+    amounts: &mut [i32],
+    presence: &mut [u64],
+    labels: &mut [u64],
+    trace: &mut [u8],
+) -> RanExplained
+    ensures { λ r. ⌜ record { answer = r; memory = record { amounts = now (amounts .exit); presence = now (presence .exit); labels = now (labels .exit); trace = now (trace .exit) } }
+        ≡ explain-call (now (file .entry)) budget (record { amounts = now (amounts .entry); presence = now (presence .entry); labels = now (labels .entry); trace = now (trace .entry) }) ⌝ }
+{
+    let explained = explainer::explain(file, budget, amounts, presence, labels, trace);
+    let answer = explained.answer;
+    let named = explained.place;
+    let numbers = entry::values_of(answer);
+    let place = place_number(named);
+    RanExplained {
+        number: numbers.number,
+        at: numbers.at as u32,
+        cost: numbers.cost,
+        bytes: numbers.bytes as u32,
+        place,
+        count: explained.count,
     }
 }
 

@@ -119,6 +119,11 @@ pub fn print_cells(amounts: &[i32], presence: &[u64], labels: &[u64]) {
     print(mixed_words(1, labels) as usize);
 }
 
+// Prints the digest of bytes, with more to follow on the line.
+pub fn print_bytes(bytes: &[u8]) {
+    print(digest_of_bytes(bytes) as usize);
+}
+
 // Prints the digest of bytes, the last of a line.
 pub fn print_last(bytes: &[u8]) {
     io::print_decimal(1, digest_of_bytes(bytes) as u64);

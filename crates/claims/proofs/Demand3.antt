@@ -57,8 +57,8 @@ left-cells budget m (stop t e s) h q l = cells-kept (s .cells) h q l
 -- ---- two calls
 
 -- what two runs show a group, two calls show it
-learns : (g : Group) (R : Label) (budget budget' : ℕ) (m m' : Memory) {o o' : Out (Unit {0})}
-    → Fine Any o → Fine Any o' → Agree g R o o' → LearnsNothing g R (result-of budget m o) (result-of budget' m' o')
+learns : (g : Group) (R : Label) (budget budget' : ℕ) (m m' : Memory) {b b' : Book} {o o' : Out (Unit {0})}
+    → Fine b Any o → Fine b' Any o' → Agree g R o o' → LearnsNothing g R (result-of budget m o) (result-of budget' m' o')
 learns g R budget budget' m m' {o} {o'} f f' a =
     let first = call-seen g budget m o (fine-records f) in
     let second = call-seen g budget' m' o' (fine-records f') in

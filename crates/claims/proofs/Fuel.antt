@@ -10,8 +10,8 @@ use borrow.Author.Tests.{leb-true, lt-leb}
 use Rattle.book.specs.Records.{Book}
 use Rattle.book.specs.Refusals.{node-at}
 use Rattle.book.proofs.Costs as kinds
-use Rattle.monitor.specs.Labelled.{bottom, Lab}
-use Rattle.monitor.specs.Run.{State, Rec, Halt, Out, done, stop, M, after, next, _>>=_, _>>_, Test, guard, with-vars, pay, restore, own}
+use Rattle.monitor.specs.Labelled.{Lab}
+use Rattle.monitor.specs.Run.{State, Rec, no-sets, Halt, Out, done, stop, M, after, next, _>>=_, _>>_, Test, guard, with-vars, pay, restore, own}
 use Rattle.monitor.specs.Rules.{Env, cost-at, eval, exec, program, run}
 use Rattle.claims.specs.Claims.{FuelEnough}
 use Rattle.claims.proofs.Guards.{Guarded, passed, failed, guarded}
@@ -49,9 +49,9 @@ spend-bind {k' = k'} h g = λ s l.
     let x = equal-next (h s l .left) g in
     record { same = x .same ∙ ap (λ o. next o k') (h s l .same); left = x .left }
 
-left-guarded : {A : Type 0} {n : ℕ} {x : Test} {m : M A} {s : State} {o : Out A} → (x .passes ≡ true → Left n (m s)) → Guarded x m s o → Left n o
+left-guarded : {A : Type 0} {n : ℕ} {x : Test} {number i : ℕ} {m : M A} {s : State} {o : Out A} → (x .passes ≡ true → Left n (m s)) → Guarded x number i m s o → Left n o
 left-guarded h (passed e) = h e
-left-guarded h failed = stopped
+left-guarded h (failed e) = stopped
 
 left-restore : {n : ℕ} (v : ℕ → Lab ℤ) {o : Out (Unit {0})} → Left n o → Left n (restore v o)
 unfolding restore
@@ -88,7 +88,7 @@ spend-pay b i = λ s l. record {
 
 -- 21 on node i
 abbrev pub out-of-budget : {A : Type 0} → ℕ → State → Out A
-out-of-budget i s = stop [] (record { number = 21; node = i; obstacle = bottom }) s
+out-of-budget i s = stop [] (record { number = 21; node = i; compared = no-sets }) s
 
 pay-nothing-left : (c i : ℕ) (s : State) → 1 ≤ c → s .left ≡ 0 → pay c i s ≡ out-of-budget i s
 unfolding pay guard

@@ -34,10 +34,10 @@ unfolding next is-done
 follows-next {k = k} {k' = k'} (done t a s) h g e = ap (λ o. next o k') (h refl) ∙ ap (after t) (g a s (done-after t (k a s) e))
 follows-next (stop t x s) h g e = absurd (false≢true e)
 
-done-guarded : {A : Type 0} {x : Test} {m : M A} {s : State} {o : Out A} → Guarded x m s o → is-done o ≡ true → m s ≡ o
+done-guarded : {A : Type 0} {x : Test} {n i : ℕ} {m : M A} {s : State} {o : Out A} → Guarded x n i m s o → is-done o ≡ true → m s ≡ o
 unfolding is-done
 done-guarded (passed e) d = refl
-done-guarded failed d = absurd (false≢true d)
+done-guarded (failed e) d = absurd (false≢true d)
 
 follows-test : {A : Type 0} (l : Label) (bound : State → Label) (n i : ℕ) (m : M A)
     → Follows A (guard (λ s. inside true l (bound s)) n i m) (guard (λ s. inside false l (bound s)) n i m)

@@ -197,18 +197,18 @@ pair-each (x ∷ xs) h = pair-bind (h x) λ _ _ _. pair-each xs h
 
 -- ---- tests
 
-quiet-guarded : {v : View} {A : Type 0} {P : A → Type 0} {x : Test} {m : M A} {s : State} {o : Out A}
-    → (x .passes ≡ true → Quiet v P s (m s)) → Guarded x m s o → Quiet v P s o
+quiet-guarded : {v : View} {A : Type 0} {P : A → Type 0} {x : Test} {n i : ℕ} {m : M A} {s : State} {o : Out A}
+    → (x .passes ≡ true → Quiet v P s (m s)) → Guarded x n i m s o → Quiet v P s o
 unfolding seen-of
 quiet-guarded h (passed e) = h e
-quiet-guarded h failed = stops refl
+quiet-guarded h (failed e) = stops refl
 
-match-guarded : {v : View} {A B : Type 0} {Q : A → B → Type 0} {x y : Test} {m : M A} {m' : M B} {s t : State} {o : Out A} {o' : Out B}
-    → (x .passes ≡ true → Match v Q (m s) (m' t)) → Guarded x m s o → Guarded y m' t o' → Match v Q o o'
+match-guarded : {v : View} {A B : Type 0} {Q : A → B → Type 0} {x y : Test} {n i n' i' : ℕ} {m : M A} {m' : M B} {s t : State} {o : Out A} {o' : Out B}
+    → (x .passes ≡ true → Match v Q (m s) (m' t)) → Guarded x n i m s o → Guarded y n' i' m' t o' → Match v Q o o'
 unfolding seen-of
 match-guarded h (passed e) (passed f) = h e
-match-guarded h failed g = first-stops (begun-nil _ refl)
-match-guarded h (passed e) failed = second-stops (begun-nil _ refl)
+match-guarded h (failed e) g = first-stops (begun-nil _ refl)
+match-guarded h (passed e) (failed f) = second-stops (begun-nil _ refl)
 
 pub still-need : {v : View} (x : Test) (n i : ℕ) → Still v (λ _. x .passes ≡ true) (need x n i)
 unfolding need
@@ -287,11 +287,11 @@ pub pair-said : {v : View} (i u : ℕ) (z z' : ℤ)
 unfolding tell
 pair-said {v} i u z z' h = pair-commit _ _ 30 i _ _ _ _ (seen-amount (v .members) u z z' h) (λ s s' r. alike-spent r)
 
-match-beyond : {v : View} {A B : Type 0} {Q : A → B → Type 0} {x : Test} {m : M A} {s : State} {o : Out A} {o' : Out B}
-    → Hidden (v .R) (gifts (v .gift) (records (m s))) → Guarded x m s o → Match v Q o o'
+match-beyond : {v : View} {A B : Type 0} {Q : A → B → Type 0} {x : Test} {n i : ℕ} {m : M A} {s : State} {o : Out A} {o' : Out B}
+    → Hidden (v .R) (gifts (v .gift) (records (m s))) → Guarded x n i m s o → Match v Q o o'
 unfolding seen-of
 match-beyond h (passed e) = beyond h
-match-beyond h failed = first-stops (begun-nil _ refl)
+match-beyond h (failed e) = first-stops (begun-nil _ refl)
 
 -- a change of rights keeps what members read inside R, if R holds what its record gives
 pub pair-changed : {v : View} (i : ℕ) (r : Rec) (f : Rights → Rights)

@@ -1,3 +1,4 @@
+pub mod Reasons
 pub mod TwoBooks
 pub mod Claims
 pub mod Witnesses

@@ -8,8 +8,8 @@ use lib.ListN.{length}
 use Rattle.book.specs.Kinds.{cost-of}
 use Rattle.book.specs.Refusals.{node-at}
 use Rattle.book.proofs.Costs.{cost-positive}
-use Rattle.monitor.specs.Labelled.{Label, bottom, Lab}
-use Rattle.monitor.specs.Run.{stop, M, next}
+use Rattle.monitor.specs.Labelled.{Label, Lab}
+use Rattle.monitor.specs.Run.{no-sets, stop, M, next}
 use Rattle.monitor.specs.Rules.{cost-at, exec}
 use Rattle.machine.specs.Script.{script-of}
 use Rattle.machine.specs.Store.{row-at, public-row, left-of, used-of, Store, state, Lent}
@@ -89,12 +89,11 @@ module _ (code : List ℕ) (n : ℕ) where
     unfolding exec next
     enters {r} {vars'} {x'} p d = record {
       records = d .records;
-      obstacle = d .obstacle;
       is = entered;
       leaves = leaves-from (p .used-same) (omega (arith, paid-less p)) (d .leaves);
     }
       where
-        entered : (fuel : ℕ) → left-of (x .run) ≤ fuel → Enters code ctx who n fuel (state vars x) ≡ ended r (x' .run) (d .obstacle) (d .records) (state vars' x')
+        entered : (fuel : ℕ) → left-of (x .run) ≤ fuel → Enters code ctx who n fuel (state vars x) ≡ ended r (x' .run) (x' .sets) (d .records) (state vars' x')
         entered zero h = absurd (omega (arith, paid-less p, h))
         entered (suc fuel) h =
             ap (λ o. next o (λ a. Commands code ctx who n fuel)) (pay-passes cost n vars x p) ∙ after-none _ ∙ d .is fuel (omega (arith, paid-less p, h))
@@ -102,8 +101,8 @@ module _ (code : List ℕ) (n : ℕ) where
     -- the cost would pass the budget
     pub enters-not : Short (x .run) cost n run → used-of (x .run) ≤ length (x .trace) → Does (Enters code ctx who n) vars x Stopped vars (with-run x run)
     unfolding exec next
-    enters-not s u = stops-on u bottom (s .stops) (λ fuel _. refused fuel)
+    enters-not s u = stops-on u refl (s .stops) (λ fuel _. refused fuel)
       where
-        refused : (fuel : ℕ) → Enters code ctx who n fuel (state vars x) ≡ stop [] (record { number = 21; node = n; obstacle = bottom }) (state vars x)
+        refused : (fuel : ℕ) → Enters code ctx who n fuel (state vars x) ≡ stop [] (record { number = 21; node = n; compared = no-sets }) (state vars x)
         refused zero = refl
         refused (suc fuel) = ap (λ o. next o (λ a. Commands code ctx who n fuel)) (pay-fails cost n vars x (s .lacks))

@@ -1,2 +1,4 @@
 pub mod Claims
+pub mod Explain
+pub mod Reasons
 pub mod Values

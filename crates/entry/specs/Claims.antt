@@ -1,14 +1,26 @@
--- The claims about the entry, as statements over what it ensures: `Runs file budget before r after` is the contract of `run`, word for
--- word. So each claim is about calls of the entry, from the file to the end. Their proofs are in proofs/.
+-- The claims about the entries, as statements over what they ensure: `Runs file budget before r after` is the contract of `run`, and
+-- `Explains file budget before r after` that of `explain`, word for word. So each claim is about calls, from the file to the end. Their proofs
+-- are in proofs/.
 use mathlib.Core.Path.{_≡_}
 use mathlib.Core.List.{List}
-use mathlib.Core.Bool.{true, false}
-use Prim.Native.Nat.{ℕ}
-use Rattle.monitor.specs.Call.{Memory, call}
+use mathlib.Core.Bool.{true, false, _&&_, not}
+use mathlib.Core.Logic.{_↔_}
+use mathlib.Core.Option.{none, some}
+use Prim.Native.Nat.{ℕ, _/_, _<_}
+use lib.ListN.{length}
+use Rattle.places.specs.Sets.{has, tally}
+use Rattle.book.specs.Layout.{decode}
+use Rattle.book.specs.declared.Verdict.the-variants as verdicts
+use Rattle.monitor.specs.Run.{Rec, State, Halt, about-labels, stop}
+use Rattle.monitor.specs.Call.{Memory, values, run-book, call-verdict, call}
+use Rattle.monitor.specs.Explain.{Explanation}
 use Rattle.claims.specs.TwoBooks.{Group, accepted, finished, reach, DifferOutside}
 use Rattle.claims.specs.Claims.{LearnsNothing}
+use Rattle.claims.specs.Reasons.{Bound}
 use Rattle.monitor.specs.declared.Answer.{Answer}
 use Rattle.entry.specs.Entry.{result, Runs}
+use Rattle.entry.specs.Explain.{explained, Explains}
+use Rattle.entry.specs.declared.Explained.{Explained}
 
 -- Demand 2, the run with no labels: where a call of the entry finishes, that run gives the same answer and leaves the same lent memory.
 abbrev pub NoLabelsSame : Type 0
@@ -25,3 +37,39 @@ Demand3 = (g : Group) (file file' : List ℕ) (budget budget' : ℕ) (before bef
     → accepted r ≡ true → accepted r' ≡ true
     → DifferOutside (reach g file (result r after)) file file'
     → LearnsNothing g (reach g file (result r after)) (result r after) (result r' after')
+
+-- ---- the reason of a stop (Change 1)
+
+-- A call that comes to this stop: its book is accepted, and its run stops with it, in this state.
+pub record StopsWith (file : List ℕ) (budget : ℕ) (before : Memory) (halt : Halt) : Type 0 where
+  pub accepts : call-verdict file budget before ≡ verdicts.Accepted
+  pub records : List Rec
+  pub state : State
+  pub run-is : run-book true (decode file) budget (length (before .trace) / 8) ≡ stop records halt state
+
+-- Place p is a true reason: the call came to a stop about labels, whose number and node the answer gives; p stands in the set that it
+-- tested and not in the set that this has to lie within; `Bound` says which set of the state in which the run stopped that is, but for 25; no
+-- lower place does so; and the count is the number of all places that do.
+pub record Reason (file : List ℕ) (budget : ℕ) (before : Memory) (answer : Answer) (p count : ℕ) : Type 0 where
+  pub halt : Halt
+  pub stops : StopsWith file budget before halt
+  pub about : about-labels (halt .number) ≡ true
+  pub answered : (values answer .number ≡ halt .number) × (values answer .at ≡ halt .node)
+  pub place : p < 512
+  pub bound-is : Bound (decode file) (stops .state) halt
+  pub inside : has (halt .compared .tested) p ≡ true
+  pub outside : has (halt .compared .bound) p ≡ false
+  pub lowest : (q : ℕ) → q < p → has (halt .compared .tested) q ≡ true → has (halt .compared .bound) q ≡ true
+  pub counted : count ≡ tally (λ q. has (halt .compared .tested) q && not (has (halt .compared .bound) q)) 512
+
+-- What is true of an explanation: a place that it names is a true reason; its count is 0 just where it names none; and a stop with 25, 26,
+-- 27 or 29 always names one.
+pub record TrueOf (file : List ℕ) (budget : ℕ) (before : Memory) (answer : Answer) (e : Explanation) : Type 0 where
+  pub reason : (p : ℕ) → e .place ≡ some p → Reason file budget before answer p (e .count)
+  pub none-zero : (e .place ≡ none) ↔ (e .count ≡ 0)
+  pub names : (halt : Halt) → StopsWith file budget before halt → about-labels (halt .number) ≡ true → (e .place ≡ none → ⊥)
+
+-- The reason that the tool gives is true, at every call.
+abbrev pub TrueReason : Type 0
+TrueReason = (file : List ℕ) (budget : ℕ) (before after : Memory) (r : Explained)
+    → Explains file budget before r after → TrueOf file budget before (r .answer) (explained r after .explanation)

@@ -75,7 +75,7 @@ aggregating-gives cells vars x n {before = before} {after = after} t u v w {foun
     let g = (rw e at h) .gives cells vars _ before after (rw e at j) in
     record {
       label = g .label;
-      is = λ fuel l rights room. after-none _ ∙ g .is fuel l rights room;
+      is = λ fuel l rights room sets. after-none _ ∙ g .is fuel l rights room sets;
       within = g .within;
       used-same = g .used-same;
       joined = g .joined;

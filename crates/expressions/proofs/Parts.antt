@@ -59,7 +59,7 @@ module _ (code : List ℕ) (n : ℕ) {cells : ℕ → Lab Cell} {vars : ℕ → 
   unfolding exp-of expr lit given
   constant-gives e l = record {
     label = bottom;
-    is = λ fuel h rights room. rw e;
+    is = λ fuel h rights room sets. rw e;
     within = le-refl (left-of run);
     used-same = refl;
     joined = λ _. sym (union-empty lent l);
@@ -71,7 +71,7 @@ module _ (code : List ℕ) (n : ℕ) {cells : ℕ → Lab Cell} {vars : ℕ → 
   unfolding exp-of expr given
   variable-gives e = record {
     label = vars (node-in code n .p) .lab;
-    is = λ fuel h rights room. rw e;
+    is = λ fuel h rights room sets. rw e;
     within = le-refl (left-of run);
     used-same = refl;
     joined = λ _. refl;

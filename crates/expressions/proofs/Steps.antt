@@ -42,7 +42,7 @@ module _ {cells : ℕ → Lab Cell} {vars : ℕ → Lab ℤ} where
     unfolding given
     stops-at e = record {
       label = bottom;
-      is = λ fuel h rights room. ap (λ (o : Out (Lab ℤ)). next o (k fuel)) (g .is fuel h rights room) ∙ next-failed v (g .label) run' _ (k fuel) e;
+      is = λ fuel h rights room sets. ap (λ (o : Out (Lab ℤ)). next o (k fuel)) (g .is fuel h rights room sets) ∙ next-failed v (g .label) run' sets _ (k fuel) e;
       within = g .within;
       used-same = g .used-same;
       joined = λ q. cc;
@@ -53,9 +53,9 @@ module _ {cells : ℕ → Lab Cell} {vars : ℕ → Lab ℤ} where
         → Gives (λ fuel. k fuel (labelled z (g .label))) cells vars run' lent r run'' last → Gives (λ fuel. m fuel >>= k fuel) cells vars run lent r run'' last
     goes-on z e rest = record {
       label = rest .label;
-      is = λ fuel h rights room. ap (λ (o : Out (Lab ℤ)). next o (k fuel)) (g .is fuel h rights room)
-          ∙ next-known v (g .label) run' _ (k fuel) z e
-          ∙ rest .is fuel (le-trans (g .within) h) rights room;
+      is = λ fuel h rights room sets. ap (λ (o : Out (Lab ℤ)). next o (k fuel)) (g .is fuel h rights room sets)
+          ∙ next-known v (g .label) run' sets _ (k fuel) z e
+          ∙ rest .is fuel (le-trans (g .within) h) rights room sets;
       within = le-trans (rest .within) (g .within);
       used-same = rest .used-same ∙ g .used-same;
       joined = rest .joined;
@@ -73,7 +73,7 @@ unfolding ranged given
 fits-held {n} {z} {run} e = record {
   gives = λ cells vars label before after j. record {
     label = label;
-    is = λ fuel h rights room. need-holds _ 22 n _ (standing cells vars rights room run) e;
+    is = λ fuel h rights room sets. need-holds _ 22 n _ (standing cells vars rights room run) e;
     within = le-refl (left-of run);
     used-same = refl;
     joined = λ _. j;
@@ -85,7 +85,7 @@ unfolding ranged given
 stop-held {n} {z} {run} e s = record {
   gives = λ cells vars label before after j. record {
     label = label;
-    is = λ fuel h rights room. rw (s .number-is, s .node-is, s .left-same) (need-fails _ 22 n _ (standing cells vars rights room run) e);
+    is = λ fuel h rights room sets. rw (s .number-is, s .node-is, s .left-same) (need-fails _ 22 n _ (standing cells vars rights room run) e);
     within = omega (arith, s .left-same);
     used-same = s .used-same;
     joined = λ q. cc;
@@ -103,16 +103,16 @@ module _ (code : List ℕ) (n : ℕ) {cells : ℕ → Lab Cell} {vars : ℕ → 
   unfolding eval next given pay guard
   unpaid s = record {
     label = bottom;
-    is = λ fuel _ rights room. is fuel rights room;
+    is = λ fuel _ rights room sets. is fuel rights room sets;
     within = omega (arith, s .stops .left-same);
     used-same = s .stops .used-same;
     joined = λ q. cc;
   }
     where
-      is : (fuel : ℕ) (rights : Rights) (room : ℕ)
-          → eval (script-of code) fuel n (standing cells vars rights room run) ≡ given Stopped bottom run₁ (standing cells vars rights room run₁)
-      is zero rights room = rw (s .stops .number-is, s .stops .node-is, s .stops .left-same)
-      is (suc fuel) rights room = rw (lt-leb (cost code n) (left-of run) (s .lacks), guard, s .stops .number-is, s .stops .node-is, s .stops .left-same)
+      is : (fuel : ℕ) (rights : Rights) (room : ℕ) (sets : List (List ℕ))
+          → eval (script-of code) fuel n (standing cells vars rights room run) ≡ given Stopped bottom run₁ sets (standing cells vars rights room run₁)
+      is zero rights room sets = rw (s .stops .number-is, s .stops .node-is, s .stops .left-same)
+      is (suc fuel) rights room sets = rw (lt-leb (cost code n) (left-of run) (s .lacks), guard, s .stops .number-is, s .stops .node-is, s .stops .left-same)
 
   -- the cost is paid, and fuel is left for the rest
   pub paid : {r : Value} {run' : List ℕ} → Paid run (cost code n) run₁ → Gives (Expresses code n) cells vars run₁ before r run' after
@@ -126,9 +126,9 @@ module _ (code : List ℕ) (n : ℕ) {cells : ℕ → Lab Cell} {vars : ℕ → 
     joined = g .joined;
   }
     where
-      is : (fuel : ℕ) → left-of run ≤ fuel → (rights : Rights) (room : ℕ)
-          → eval (script-of code) fuel n (standing cells vars rights room run) ≡ given r (g .label) run' (standing cells vars rights room run')
-      is zero h rights room = absurd (omega (arith, p .enough, cost-positive (node-at (script-of code) n .kind)))
-      is (suc fuel) h rights room =
+      is : (fuel : ℕ) → left-of run ≤ fuel → (rights : Rights) (room : ℕ) (sets : List (List ℕ))
+          → eval (script-of code) fuel n (standing cells vars rights room run) ≡ given r (g .label) run' sets (standing cells vars rights room run')
+      is zero h rights room sets = absurd (omega (arith, p .enough, cost-positive (node-at (script-of code) n .kind)))
+      is (suc fuel) h rights room sets =
           let some : 1 ≤ cost code n = cost-positive (node-at (script-of code) n .kind) in
-          rw (le-leb (cost code n) (left-of run) (p .enough), guard, sym (p .left-is)) (after-none _ ∙ g .is fuel (omega (arith, p .left-is, p .enough)) rights room)
+          rw (le-leb (cost code n) (left-of run) (p .enough), guard, sym (p .left-is)) (after-none _ ∙ g .is fuel (omega (arith, p .left-is, p .enough)) rights room sets)

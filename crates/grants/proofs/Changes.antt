@@ -23,11 +23,11 @@ use Rattle.monitor.specs.Syntax.{cmd-of}
 use Rattle.monitor.specs.Rules.{region-places, granted, revoked, command}
 use Rattle.machine.specs.Script.{script-of, Runnable, Node}
 use Rattle.machine.specs.Store.{row-at, present-row, public-row, read-row, write-row, label-row, users-rows, Replaces, cells-held, rights-in, used-of, run-numbers, Store, store, state, Lent}
-use Rattle.machine.specs.Promises.{Stops, Does, Commands, Who}
+use Rattle.machine.specs.Promises.{Stops, Compares, Does, Commands, Who}
 use Rattle.machine.specs.declared.Outcome.{Outcome}
 use Rattle.machine.specs.declared.Outcome.the-variants.{Done, Stopped}
 use Rattle.machine.proofs.Nodes.{Read, read-at, change-p, change-a, change-b}
-use Rattle.machine.proofs.Runs.{need-holds, need-fails, with-run, comes-to, does-as, stops-on}
+use Rattle.machine.proofs.Runs.{need-holds, need-fails, with-run, comes-to, does-as, stops-on, stops-outside}
 use Rattle.machine.proofs.Stores.{no-user, users-same, users-replaced}
 use Rattle.grants.specs.Rights.{altered, kind-of}
 use Rattle.traces.proofs.Records.{tell-full, tell-writes, changed-recorded}
@@ -70,7 +70,7 @@ module _ (sets sets' : List (List ℕ)) {users : ℕ → Label} (reads : Bool) (
   low i h = elim reads as (λ b. i < first b) [ true ↦ h | false ↦ omega arith ]
 
   high : (i : ℕ) → label-row ≤ i → first reads + 8 ≤ i
-  high i h = elim reads as (λ b. first b + 8 ≤ i) [ true ↦ omega arith | false ↦ h ]
+  high i h = elim reads as (λ b. first b + 8 ≤ i) [ true ↦ omega arith | false ↦ omega arith ]
 
   cells-stay : (amounts : List ℤ) → cells-held amounts sets ≡ cells-held amounts sets'
   unfolding cells-held
@@ -169,15 +169,16 @@ module _ (code : List ℕ) (ctx : Label) (n : ℕ) where
 
     pub change-refused : {r : Outcome} {run : List ℕ} → (who .user ≡ 0 → ⊥) → (r ≡ Stopped) × Stops (x .run) 28 n run
         → Ends r (with-run x run)
-    change-refused h s = does-as (as-change (g .1 .1) who) (rw (s .0) (stops-on (g .0 .room) _ (s .1)
+    change-refused h s = does-as (as-change (g .1 .1) who) (rw (s .0) (stops-on (g .0 .room) refl (s .1)
         (λ fuel _. need-fails (plainly (eqb (who .user) 0)) 28 n _ (state vars x) (ne-eqb (who .user) 0 h))))
 
     module _ (eu : who .user ≡ 0) where
-      pub change-hidden : {r : Outcome} {run : List ℕ} → within ctx (row-at (x .sets) public-row) ≡ false → (r ≡ Stopped) × Stops (x .run) 29 n run
-          → Ends r (with-run x run)
-      change-hidden h s = does-as (as-change (g .1 .1) who) (rw (s .0) (stops-on (g .0 .room) _ (s .1)
+      pub change-hidden : {r : Outcome} {sets : List (List ℕ)} {run : List ℕ} → within ctx (row-at (x .sets) public-row) ≡ false
+          → (r ≡ Stopped) × Stops (x .run) 29 n run × Compares (x .sets) (record { tested = ctx; bound = row-at (x .sets) public-row }) sets
+          → Ends r (store (x .amounts) sets run (x .trace))
+      change-hidden h s = does-as (as-change (g .1 .1) who) (rw (s .0) (stops-outside (g .0 .room) refl (s .1) (s .2)
           (λ fuel _. need-holds (plainly (eqb (who .user) 0)) 28 n _ (state vars x) (eq-eqb (who .user) 0 eu)
-          ∙ need-fails test 29 n _ (state vars x) (rw (← g .0 .public-is) h))))
+          ∙ rw (g .0 .public-is) (need-fails test 29 n _ (state vars x) (rw (← g .0 .public-is) h)))))
 
       module _ (h : within ctx (row-at (x .sets) public-row) ≡ true) where
         -- what is left is to tell

@@ -111,7 +111,7 @@ pub fn change(
     let everyone = sets[machine::PUBLIC];
     let open = places::within(context, everyone);
     if !open {
-        return machine::stop(run, 29, n);
+        return machine::stop_outside(run, sets, 29, n, ctx, &everyone);
     }
     let used = run[machine::USED] as usize;
     if trace.len() < used + 8 {

@@ -1,6 +1,16 @@
-// The run list: a book from standard input is run, and a line printed for each trace record and one for how the run ended.
+// The run list: a book from standard input is run, and a line printed for each trace record and one for how the run ended. The explained list
+// has one line more, for the cell in the way of its stop.
+use counting::LowestMember;
 ghost use Prim.Native.Nat.{_+_, _≤_};
 ghost use lib.ListN.{length};
+
+// The bytes read: the longest book has 60,000; one more is read, so that a longer input is refused and not cut.
+const FILE: usize = 60001;
+
+const BUDGET: u32 = 100000;
+
+// The bytes of the trace.
+const TRACE: usize = 4096;
 
 // Prints a space and a number.
 fn print_number(number: u64) {
@@ -84,24 +94,68 @@ fn print_end(answer: monitor::Answer) {
     io::write_all(1, b"\n");
 }
 
-// Reads a book, runs it with a budget of 100,000 and 4,096 trace bytes, and prints its lines. The longest book has 60,000 bytes;
-// one more is read, so that a longer input is refused and not cut.
+// Prints the lines of a run.
+fn print_run(trace: &[u8], answer: monitor::Answer) {
+    let values = entry::values_of(answer);
+    print_records(trace, values.bytes);
+    print_end(answer);
+}
+
+// Prints the line of an explanation: the table, the owner and the line of its place, and how many places there are.
+fn print_explanation(place: LowestMember, count: u32) {
+    io::write_all(1, b"place");
+    match place {
+        LowestMember::Place(number) => {
+            print_number((number / 64) as u64);
+            print_number((number / 8 % 8) as u64);
+            print_number((number % 8) as u64);
+        }
+        LowestMember::None => {
+            io::write_all(1, b" none");
+        }
+    }
+    io::write_all(1, b" count");
+    print_number(count as u64);
+    io::write_all(1, b"\n");
+}
+
+// Reads a book, runs it, and prints its lines.
 pub fn list() {
-    let mut file = [0u8; 60001];
+    let mut file = [0u8; FILE];
     let size = io::read_full(0, &mut file);
     let mut amounts = [0i32; 512];
     let mut presence = [0u64; 8];
     let mut labels = [0u64; 4096];
-    let mut trace = [0u8; 4096];
+    let mut trace = [0u8; TRACE];
     let answer = runner::run(
         &file[..size],
-        100000,
+        BUDGET,
         &mut amounts,
         &mut presence,
         &mut labels,
         &mut trace,
     );
-    let values = entry::values_of(answer);
-    print_records(&trace, values.bytes);
-    print_end(answer);
+    print_run(&trace, answer);
+}
+
+// The same, and then the line of its explanation.
+pub fn list_explained() {
+    let mut file = [0u8; FILE];
+    let size = io::read_full(0, &mut file);
+    let mut amounts = [0i32; 512];
+    let mut presence = [0u64; 8];
+    let mut labels = [0u64; 4096];
+    let mut trace = [0u8; TRACE];
+    let explained = explainer::explain(
+        &file[..size],
+        BUDGET,
+        &mut amounts,
+        &mut presence,
+        &mut labels,
+        &mut trace,
+    );
+    let answer = explained.answer;
+    let place = explained.place;
+    print_run(&trace, answer);
+    print_explanation(place, explained.count);
 }

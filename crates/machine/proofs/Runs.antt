@@ -8,14 +8,15 @@ use native.Mathlib.Omega.{arith}
 use lib.IntN.{ℤ}
 use lib.ListN.{length, length-append}
 use borrow.Author.Tests.{le-leb, lt-leb}
-use Rattle.monitor.specs.Labelled.{Label, bottom, Lab}
-use Rattle.monitor.specs.Run.{State, Rec, Out, done, stop, M, after, next, _>>=_, _>>_, ret, look, Test, guard, need, pay, restore, own}
-use Rattle.machine.specs.Store.{row-at, public-row, cells-held, left-of, used-of, Store, store, state, with-records}
-use Rattle.machine.specs.Promises.{Stops, Paid, halted, given, Gives, ended, Leaves, Does}
+use Rattle.monitor.specs.Labelled.{Label, Lab}
+use Rattle.monitor.specs.Run.{State, Rec, Compared, no-sets, about-labels, Out, done, stop, M, after, next, _>>=_, _>>_, ret, look, Test, guard, need, pay, restore, own}
+use Rattle.machine.specs.Store.{row-at, public-row, cells-held, left-of, used-of, Store, store, state, room-in, with-records}
+use Rattle.machine.specs.Promises.{Stops, Paid, Compares, compared-in, halted, given, Gives, ended, Leaves, Does}
 use Rattle.machine.specs.declared.Value.{Value}
 use Rattle.machine.specs.declared.Value.the-variants as value
 use Rattle.machine.specs.declared.Outcome.{Outcome}
 use Rattle.machine.specs.declared.Outcome.the-variants.{Done, Stopped}
+use Rattle.machine.proofs.Stores.{SameState, compares-same}
 use Rattle.machine.proofs.Traces.{with-none, with-length, with-both}
 
 is-done : Outcome → Bool
@@ -34,32 +35,32 @@ unfolding after
 after-none (done records a s) = refl
 after-none (stop records h s) = refl
 
-after-ended : (o : Outcome) (run : List ℕ) (obstacle : Label) (a b : List Rec) (s : State)
-    → after a (ended o run obstacle b s) ≡ ended o run obstacle (a ++ b) s
+after-ended : (o : Outcome) (run : List ℕ) (sets : List (List ℕ)) (a b : List Rec) (s : State)
+    → after a (ended o run sets b s) ≡ ended o run sets (a ++ b) s
 unfolding after ended
-after-ended Done run obstacle a b s = refl
-after-ended Stopped run obstacle a b s = refl
+after-ended Done run sets a b s = refl
+after-ended Stopped run sets a b s = refl
 
-next-done : (o : Outcome) (run : List ℕ) (obstacle : Label) (records : List Rec) (s : State) (k : M (Unit {0}))
-    → o ≡ Done → next (ended o run obstacle records s) (λ a. k) ≡ after records (k s)
+next-done : (o : Outcome) (run : List ℕ) (sets : List (List ℕ)) (records : List Rec) (s : State) (k : M (Unit {0}))
+    → o ≡ Done → next (ended o run sets records s) (λ a. k) ≡ after records (k s)
 unfolding next ended
-next-done o run obstacle records s k e = rw e
+next-done o run sets records s k e = rw e
 
-next-stopped : (o : Outcome) (run : List ℕ) (obstacle : Label) (records : List Rec) (s : State) (k : M (Unit {0}))
-    → o ≡ Stopped → next (ended o run obstacle records s) (λ a. k) ≡ ended o run obstacle records s
+next-stopped : (o : Outcome) (run : List ℕ) (sets : List (List ℕ)) (records : List Rec) (s : State) (k : M (Unit {0}))
+    → o ≡ Stopped → next (ended o run sets records s) (λ a. k) ≡ ended o run sets records s
 unfolding next ended
-next-stopped o run obstacle records s k e = rw e
+next-stopped o run sets records s k e = rw e
 
-pub next-known : {A : Type 0} (v : Value) (label : Label) (run : List ℕ) (s : State) (k : Lab ℤ → M A) (z : ℤ)
-    → v ≡ value.Known z → next (given v label run s) k ≡ k (record { val = z; lab = label }) s
+pub next-known : {A : Type 0} (v : Value) (label : Label) (run : List ℕ) (sets : List (List ℕ)) (s : State) (k : Lab ℤ → M A) (z : ℤ)
+    → v ≡ value.Known z → next (given v label run sets s) k ≡ k (record { val = z; lab = label }) s
 unfolding next given
-next-known v label run s k z e = rw e (after-none (k (record { val = z; lab = label }) s))
+next-known v label run sets s k z e = rw e (after-none (k (record { val = z; lab = label }) s))
 
 -- an expression that stops, and what would have followed it
-pub next-failed : {A : Type 0} (v : Value) (label : Label) (run : List ℕ) (s : State) (k : Lab ℤ → M A) → v ≡ value.Stopped
-    → next (given v label run s) k ≡ stop [] (halted run bottom) s
+pub next-failed : {A : Type 0} (v : Value) (label : Label) (run : List ℕ) (sets : List (List ℕ)) (s : State) (k : Lab ℤ → M A) → v ≡ value.Stopped
+    → next (given v label run sets s) k ≡ stop [] (halted run sets) s
 unfolding next given
-next-failed v label run s k e = rw e
+next-failed v label run sets s k e = rw e
 
 pub next-look : {A B : Type 0} (f : State → A) (k : A → M B) (s : State) → next (look f s) k ≡ k (f s) s
 unfolding next
@@ -72,7 +73,7 @@ unfolding guard
 guard-true x number node m s e = rw (e, guard)
 
 pub guard-false : {A : Type 0} (x : State → Test) (number node : ℕ) (m : M A) (s : State)
-    → x s .passes ≡ false → guard x number node m s ≡ stop [] (record { number = number; node = node; obstacle = x s .obstacle }) s
+    → x s .passes ≡ false → guard x number node m s ≡ stop [] (record { number = number; node = node; compared = x s .compared }) s
 unfolding guard
 guard-false x number node m s e = rw (e, guard)
 
@@ -82,7 +83,7 @@ unfolding need next
 need-holds x number node k s e = ap (λ o. next o k) (guard-true (λ _. x) number node (ret tt) s e) ∙ after-none (k tt s)
 
 pub need-fails : {A : Type 0} (x : Test) (number node : ℕ) (k : Unit {0} → M A) (s : State)
-    → x .passes ≡ false → next (need x number node s) k ≡ stop [] (record { number = number; node = node; obstacle = x .obstacle }) s
+    → x .passes ≡ false → next (need x number node s) k ≡ stop [] (record { number = number; node = node; compared = x .compared }) s
 unfolding need next
 need-fails x number node k s e = ap (λ o. next o k) (guard-false (λ _. x) number node (ret tt) s e)
 
@@ -97,10 +98,17 @@ state-same : (vars : ℕ → Lab ℤ) (x : Store) (run : List ℕ) → left-of r
     → state vars (with-run x run) ≡ state vars x
 state-same vars x run l u = rw (l, u)
 
--- the stop of the rules is the one that the numbers hold
-halted-is : {run run' : List ℕ} {number node : ℕ} (obstacle : Label) → Stops run number node run'
-    → halted run' obstacle ≡ record { number = number; node = node; obstacle = obstacle }
-halted-is obstacle s = rw (s .number-is, s .node-is)
+-- the stop of the rules is the one that the numbers and the sets hold
+halted-is : {run run' : List ℕ} {number node : ℕ} (sets : List (List ℕ)) {c : Compared} → Stops run number node run' → compared-in number sets ≡ c
+    → halted run' sets ≡ record { number = number; node = node; compared = c }
+halted-is sets s e = rw (s .number-is, s .node-is, e)
+
+-- a stop that is not about labels has no sets, and one that is has those in its rows
+plain-sets : (number : ℕ) (sets : List (List ℕ)) → about-labels number ≡ false → compared-in number sets ≡ no-sets
+plain-sets number sets e = rw e
+
+label-sets : (number : ℕ) {sets sets' : List (List ℕ)} {c : Compared} → about-labels number ≡ true → Compares sets c sets' → compared-in number sets' ≡ c
+label-sets number {c = c} e l = rw (e, l .tested-is, l .bound-is)
 
 -- 21: a cost that is paid, and one for which there is not enough left
 pub pay-passes : (cost n : ℕ) (vars : ℕ → Lab ℤ) (x : Store) {run : List ℕ} → Paid (x .run) cost run
@@ -109,15 +117,15 @@ unfolding pay guard
 pay-passes cost n vars x p = rw (le-leb cost (left-of (x .run)) (p .enough), p .left-is, p .used-same, guard)
 
 pub pay-fails : (cost n : ℕ) (vars : ℕ → Lab ℤ) (x : Store) → left-of (x .run) < cost
-    → pay cost n (state vars x) ≡ stop [] (record { number = 21; node = n; obstacle = bottom }) (state vars x)
+    → pay cost n (state vars x) ≡ stop [] (record { number = 21; node = n; compared = no-sets }) (state vars x)
 unfolding pay guard
 pay-fails cost n vars x h = rw (lt-leb cost (left-of (x .run)) h, guard)
 
 -- an expression's answer leaves the state but for what is left
 gives-state : (vars : ℕ → Lab ℤ) (x : Store) {m : ℕ → M (Lab ℤ)} {before : Label} {v : Value} {run : List ℕ} {label : Label}
     (d : Gives m (cells-held (x .amounts) (x .sets)) vars (x .run) before v run label) (fuel : ℕ) → left-of (x .run) ≤ fuel
-    → m fuel (state vars x) ≡ given v (d .label) run (state vars (with-run x run))
-gives-state vars x d fuel h = rw (d .used-same) (d .is fuel h _ _)
+    → m fuel (state vars x) ≡ given v (d .label) run (x .sets) (state vars (with-run x run))
+gives-state vars x d fuel h = rw (d .used-same) (d .is fuel h _ _ (x .sets))
 
 -- ---- what is left beside the rules' state
 
@@ -170,7 +178,7 @@ module _ {vars : ℕ → Lab ℤ} {x : Store} where
   pub comes-to : {m m' : ℕ → M (Unit {0})} {r : Outcome} {vars' : ℕ → Lab ℤ} {x' : Store}
       → ((fuel : ℕ) → left-of (x .run) ≤ fuel → m fuel (state vars x) ≡ m' fuel (state vars x))
       → Does m' vars x r vars' x' → Does m vars x r vars' x'
-  comes-to e d = record { records = d .records; obstacle = d .obstacle; is = λ fuel h. e fuel h ∙ d .is fuel h; leaves = d .leaves }
+  comes-to e d = record { records = d .records; is = λ fuel h. e fuel h ∙ d .is fuel h; leaves = d .leaves }
 
   -- the same run by another name
   pub does-as : {m m' : ℕ → M (Unit {0})} {r : Outcome} {vars' : ℕ → Lab ℤ} {x' : Store}
@@ -179,35 +187,53 @@ module _ {vars : ℕ → Lab ℤ} {x : Store} where
 
   module _ (u : used-of (x .run) ≤ length (x .trace)) where
     -- a run that writes no record, with any answer; it may change the numbers of the run but not the trace bytes used
-    pub quietly : {m : ℕ → M (Unit {0})} {r : Outcome} {vars' : ℕ → Lab ℤ} {amounts : List ℤ} {sets : List (List ℕ)} {run : List ℕ} (obstacle : Label)
+    pub quietly : {m : ℕ → M (Unit {0})} {r : Outcome} {vars' : ℕ → Lab ℤ} {amounts : List ℤ} {sets : List (List ℕ)} {run : List ℕ}
         → left-of run ≤ left-of (x .run) → used-of run ≡ used-of (x .run) → row-at sets public-row ≡ row-at (x .sets) public-row
-        → ((fuel : ℕ) → left-of (x .run) ≤ fuel → m fuel (state vars x) ≡ ended r run obstacle [] (state vars' (store amounts sets run (x .trace))))
+        → ((fuel : ℕ) → left-of (x .run) ≤ fuel → m fuel (state vars x) ≡ ended r run sets [] (state vars' (store amounts sets run (x .trace))))
         → Does m vars x r vars' (store amounts sets run (x .trace))
-    quietly obstacle w e p is = record { records = []; obstacle = obstacle; is = is; leaves = leaves-none u w e p }
+    quietly w e p is = record { records = []; is = is; leaves = leaves-none u w e p }
 
-    -- a test that fails
-    pub stops-on : {m : ℕ → M (Unit {0})} {run : List ℕ} {number node : ℕ} (obstacle : Label) → Stops (x .run) number node run
-        → ((fuel : ℕ) → left-of (x .run) ≤ fuel → m fuel (state vars x) ≡ stop [] (record { number = number; node = node; obstacle = obstacle }) (state vars x))
-        → Does m vars x Stopped vars (with-run x run)
+    -- a test that fails, with the sets that it compares; of the sets, only the rows of a stop may change
+    stops-with : {m : ℕ → M (Unit {0})} {sets : List (List ℕ)} {run : List ℕ} {number node : ℕ} {c : Compared} → Stops (x .run) number node run
+        → SameState (x .amounts) (x .sets) sets → compared-in number sets ≡ c
+        → ((fuel : ℕ) → left-of (x .run) ≤ fuel → m fuel (state vars x) ≡ stop [] (record { number = number; node = node; compared = c }) (state vars x))
+        → Does m vars x Stopped vars (store (x .amounts) sets run (x .trace))
     unfolding ended
-    stops-on {run = run} {number = number} {node = node} obstacle s is =
-        quietly obstacle (omega (arith, s .left-same)) (s .used-same) refl (λ fuel h. is fuel h
-        ∙ ap (λ q. stop [] (record { number = number; node = node; obstacle = obstacle }) q) (sym (state-same vars x run (s .left-same) (s .used-same)))
-        ∙ ap (λ h. stop [] h (state vars (with-run x run))) (sym (halted-is obstacle s)))
+    stops-with {sets = sets} {run = run} s same e is =
+        quietly (omega (arith, s .left-same)) (s .used-same) (same .public-same) (λ fuel h. is fuel h
+        ∙ (λ i. stop [] (sym (halted-is sets s e) i) (record {
+          cells = sym (same .cells-same) i;
+          vars = vars;
+          rights = sym (same .rights-same) i;
+          left = sym (s .left-same) i;
+          room = room-in (x .trace) (sym (s .used-same) i);
+        })))
+
+    -- a test that is not about labels
+    pub stops-on : {m : ℕ → M (Unit {0})} {run : List ℕ} {number node : ℕ} → about-labels number ≡ false → Stops (x .run) number node run
+        → ((fuel : ℕ) → left-of (x .run) ≤ fuel → m fuel (state vars x) ≡ stop [] (record { number = number; node = node; compared = no-sets }) (state vars x))
+        → Does m vars x Stopped vars (with-run x run)
+    stops-on {number = number} e s is = stops-with s (record { cells-same = refl; rights-same = refl; public-same = refl }) (plain-sets number (x .sets) e) is
+
+    -- a test of labels, whose sets are left in the rows of a stop
+    pub stops-outside : {m : ℕ → M (Unit {0})} {sets : List (List ℕ)} {run : List ℕ} {number node : ℕ} {c : Compared} → about-labels number ≡ true
+        → Stops (x .run) number node run → Compares (x .sets) c sets
+        → ((fuel : ℕ) → left-of (x .run) ≤ fuel → m fuel (state vars x) ≡ stop [] (record { number = number; node = node; compared = c }) (state vars x))
+        → Does m vars x Stopped vars (store (x .amounts) sets run (x .trace))
+    stops-outside {number = number} e s l is = stops-with s (compares-same (x .amounts) l) (label-sets number e l) is
 
     -- a run that is done, and changes only the variables
     pub sets-vars : {m : ℕ → M (Unit {0})} {vars' : ℕ → Lab ℤ}
         → ((fuel : ℕ) → left-of (x .run) ≤ fuel → m fuel (state vars x) ≡ done [] tt (state vars' x)) → Does m vars x Done vars' x
     unfolding ended
-    sets-vars is = quietly bottom (le-refl (left-of (x .run))) refl refl is
+    sets-vars is = quietly (le-refl (left-of (x .run))) refl refl is
 
   -- a command that stops is the end of what it begins
   pub then-stops : {m : ℕ → M (Unit {0})} (k : ℕ → M (Unit {0})) {r : Outcome} {vars' : ℕ → Lab ℤ} {x' : Store}
       → Does m vars x r vars' x' → r ≡ Stopped → Does (λ fuel. m fuel >> k fuel) vars x r vars' x'
   then-stops k {r} {vars'} {x'} d e = record {
     records = d .records;
-    obstacle = d .obstacle;
-    is = λ fuel h. ap (λ o. next o (λ a. k fuel)) (d .is fuel h) ∙ next-stopped r (x' .run) (d .obstacle) (d .records) (state vars' x') (k fuel) e;
+    is = λ fuel h. ap (λ o. next o (λ a. k fuel)) (d .is fuel h) ∙ next-stopped r (x' .run) (x' .sets) (d .records) (state vars' x') (k fuel) e;
     leaves = d .leaves;
   }
 
@@ -216,11 +242,10 @@ module _ {vars : ℕ → Lab ℤ} {x : Store} where
       → Does m vars x r vars₁ x₁ → r ≡ Done → Does k vars₁ x₁ r' vars₂ x₂ → Does (λ fuel. m fuel >> k fuel) vars x r' vars₂ x₂
   then-goes {m} {k} {r} {vars₁} {x₁} {r'} {vars₂} {x₂} d o e = record {
     records = d .records ++ e .records;
-    obstacle = e .obstacle;
     is = λ fuel h. ap (λ o. next o (λ a. k fuel)) (d .is fuel h)
-        ∙ next-done r (x₁ .run) (d .obstacle) (d .records) (state vars₁ x₁) (k fuel) o
+        ∙ next-done r (x₁ .run) (x₁ .sets) (d .records) (state vars₁ x₁) (k fuel) o
         ∙ ap (after (d .records)) (e .is fuel (omega (arith, d .leaves .within)))
-        ∙ after-ended r' (x₂ .run) (e .obstacle) (d .records) (e .records) (state vars₂ x₂);
+        ∙ after-ended r' (x₂ .run) (x₂ .sets) (d .records) (e .records) (state vars₂ x₂);
     leaves = leaves-both (d .leaves) (e .leaves);
   }
 
@@ -231,7 +256,6 @@ module _ {vars : ℕ → Lab ℤ} {x : Store} where
       → Does k vars (with-run x run) r vars' x' → Does m vars x r vars' x'
   from-run u w is d = record {
     records = d .records;
-    obstacle = d .obstacle;
     is = λ fuel h. is fuel h ∙ d .is fuel (omega (arith, w));
     leaves = leaves-from u w (d .leaves);
   }
@@ -243,14 +267,14 @@ module _ {vars : ℕ → Lab ℤ} {x : Store} where
     pub value-stops : v ≡ value.Stopped → used-of (x .run) ≤ length (x .trace)
         → Does (λ fuel. m fuel >>= k fuel) vars x Stopped vars (with-run x run)
     unfolding ended
-    value-stops e u = quietly u bottom (d .within) (d .used-same) refl
-        (λ fuel h. ap (λ o. next o (k fuel)) (gives-state vars x d fuel h) ∙ next-failed v (d .label) run (state vars (with-run x run)) (k fuel) e)
+    value-stops e u = quietly u (d .within) (d .used-same) refl
+        (λ fuel h. ap (λ o. next o (k fuel)) (gives-state vars x d fuel h) ∙ next-failed v (d .label) run (x .sets) (state vars (with-run x run)) (k fuel) e)
 
     pub value-goes : {r : Outcome} {vars' : ℕ → Lab ℤ} {x' : Store} (z : ℤ) → v ≡ value.Known z
         → Does (λ fuel. k fuel (record { val = z; lab = d .label })) vars (with-run x run) r vars' x'
         → Does (λ fuel. m fuel >>= k fuel) vars x r vars' x'
     value-goes z e w = from-run (d .used-same) (d .within)
-        (λ fuel h. ap (λ o. next o (k fuel)) (gives-state vars x d fuel h) ∙ next-known v (d .label) run (state vars (with-run x run)) (k fuel) z e) w
+        (λ fuel h. ap (λ o. next o (k fuel)) (gives-state vars x d fuel h) ∙ next-known v (d .label) run (x .sets) (state vars (with-run x run)) (k fuel) z e) w
 
 -- a run with variables of its own: those of the caller come back
 pub own-does : {m : ℕ → M (Unit {0})} {own-vars own-vars' vars : ℕ → Lab ℤ} {x x' : Store} {r : Outcome}
@@ -258,11 +282,10 @@ pub own-does : {m : ℕ → M (Unit {0})} {own-vars own-vars' vars : ℕ → Lab
 unfolding own restore ended
 own-does {own-vars' = own-vars'} {vars = vars} {x' = x'} {r = r} d = record {
   records = d .records;
-  obstacle = d .obstacle;
   is = λ fuel h. ap (restore vars) (d .is fuel h) ∙ back r;
   leaves = d .leaves;
 }
   where
-    back : (o : Outcome) → restore vars (ended o (x' .run) (d .obstacle) (d .records) (state own-vars' x')) ≡ ended o (x' .run) (d .obstacle) (d .records) (state vars x')
+    back : (o : Outcome) → restore vars (ended o (x' .run) (x' .sets) (d .records) (state own-vars' x')) ≡ ended o (x' .run) (x' .sets) (d .records) (state vars x')
     back Done = refl
     back Stopped = refl

@@ -17,9 +17,10 @@ use Rattle.places.proofs.Sets.{union-word, difference-word, has-union, has-diff
 use Rattle.book.specs.Start.{tabulate}
 use Rattle.book.proofs.Tabulate.{length-tabulate, tabulate-at}
 use Rattle.monitor.specs.Labelled.{Label}
-use Rattle.monitor.specs.Run.{update}
+use Rattle.monitor.specs.Run.{Compared, update}
 use Rattle.monitor.specs.Call.{rows}
-use Rattle.machine.specs.Store.{row-at, present-row, public-row, read-row, write-row, label-row, set-rows, users-rows, Replaces, cells-held, rights-in, vars-of, cell}
+use Rattle.machine.specs.Promises.{Compares}
+use Rattle.machine.specs.Store.{row-at, present-row, public-row, read-row, write-row, tested-row, bound-row, label-row, set-rows, users-rows, Replaces, cells-held, rights-in, vars-of, cell}
 
 -- the update of f at p is what holds a at p and else what f holds
 pub updated : {A : Type 0} {f g : ℕ → A} {p : ℕ} {a : A} → g p ≡ a → ((q : ℕ) → (q ≡ p → ⊥) → g q ≡ f q) → g ≡ update f p a
@@ -179,7 +180,46 @@ module _ (presence : List ℕ) (q : ℕ) (h : q < 512) (l : length presence ≡ 
       go (yes e) = in-word put j e ∙ rw (has-single 8 q j, ne-eqb j q d) (kept put (has presence j) (ltb j 512))
       go (no e) = same-word (marked put) presence j (getD-set-other presence (q / 64) (j / 64) _ 0 e)
 
--- the write of a cell: its amount, its presence and its label, each a store at one index
+-- ---- a stop about labels
+
+-- other sets of the same state: the cells, the rights and the public set
+pub record SameState (amounts : List ℤ) (sets sets' : List (List ℕ)) : Type 0 where
+  pub cells-same : cells-held amounts sets' ≡ cells-held amounts sets
+  pub rights-same : rights-in sets' ≡ rights-in sets
+  pub public-same : row-at sets' public-row ≡ row-at sets public-row
+
+-- the rows of a stop are none of them
+pub compares-same : (amounts : List ℤ) {sets sets' : List (List ℕ)} {c : Compared} → Compares sets c sets' → SameState amounts sets sets'
+unfolding cells-held
+compares-same amounts {sets} {sets'} l = record {
+  cells-same = λ i q. record {
+    val = record { present = has (stays present-row (omega arith) i) q; amount = getD amounts q (pos 0) };
+    lab = l .others (label-row + q) (λ e. omega (arith, e)) (λ e. omega (arith, e)) i;
+  };
+  rights-same = rw (
+    users-same sets sets' read-row (λ user b. stays (read-row + user) (omega arith)),
+    users-same sets sets' write-row (λ user b. stays (write-row + user) (omega arith)),
+  );
+  public-same = stays public-row (omega arith);
+}
+  where
+    stays : (i : ℕ) → i < tested-row → row-at sets' i ≡ row-at sets i
+    stays i h = l .others i (λ e. omega (arith, h, e)) (λ e. omega (arith, h, e))
+
+-- the two rows, stored one after the other
+pub compares-stored : (sets : List (List ℕ)) (c : Compared) → length sets ≡ set-rows → Compares sets c (set (set sets tested-row (c .tested)) bound-row (c .bound))
+compares-stored sets c long =
+    let first : List (List ℕ) = set sets tested-row (c .tested) in
+    let all : length first ≡ set-rows = length-set sets tested-row (c .tested) ∙ long in
+    record {
+      tested-is = row-other first bound-row (c .bound) tested-row (λ e. omega (arith, e)) ∙ row-same sets tested-row (c .tested) (omega arith);
+      bound-is = row-same first bound-row (c .bound) (omega arith);
+      others = λ i d e. row-other first bound-row (c .bound) i e ∙ row-other sets tested-row (c .tested) i d;
+    }
+
+-- ---- the write of a cell
+
+-- its amount, its presence and its label, each a store at one index
 module _ (sets : List (List ℕ)) (q event : ℕ) (label : Label) (h : q < 512) (l : length (row-at sets present-row) ≡ 8) (long : length sets ≡ set-rows) where
   abbrev words : List ℕ
   words = marked (row-at sets present-row) q h l (eqb event 1)

@@ -2,18 +2,18 @@
 -- call to the state at the return, with that answer.
 use mathlib.Core.Path.{_≡_}
 use mathlib.Core.List.{List, []}
-use mathlib.Core.Bool.{true}
+use mathlib.Core.Bool.{true, cond}
 use Prim.Native.Nat.{ℕ, _+_, _-_, _*_, _≤_, _<_}
 use lib.IntN.{ℤ}
 use lib.ListN.{length, getD}
 use Rattle.places.specs.Sets.{union}
 use Rattle.book.specs.Refusals.{node-at}
-use Rattle.monitor.specs.Labelled.{Label, bottom, Lab}
-use Rattle.monitor.specs.Run.{Cell, Rights, State, Rec, Halt, Out, done, stop, M}
+use Rattle.monitor.specs.Labelled.{Label, Lab}
+use Rattle.monitor.specs.Run.{Cell, Rights, State, Rec, Compared, no-sets, Halt, about-labels, Out, done, stop, M}
 use Rattle.monitor.specs.Syntax.{exp-of, cmd-of}
 use Rattle.monitor.specs.Rules.{Env, expr, eval, command, exec}
 use Rattle.machine.specs.Script.{script-of}
-use Rattle.machine.specs.Store.{row-at, public-row, left-of, used-of, number-of, node-of, Store, state, with-records}
+use Rattle.machine.specs.Store.{row-at, public-row, tested-row, bound-row, left-of, used-of, number-of, node-of, Store, state, with-records}
 use Rattle.machine.specs.declared.Value.{Value}
 use Rattle.machine.specs.declared.Value.the-variants as value
 use Rattle.machine.specs.declared.Outcome.{Outcome}
@@ -43,24 +43,35 @@ pub record Pays (run : List ℕ) (cost node : ℕ) (r : Outcome) (run' : List �
   pub paid : r ≡ Done → Paid run cost run'
   pub short : r ≡ Stopped → Short run cost node run'
 
--- the stop that they hold; the label that stood in its way is the rules' own
-abbrev pub halted : List ℕ → Label → Halt
-halted run obstacle = record { number = number-of run; node = node-of run; obstacle = obstacle }
+-- sets' has these two sets in the rows of a stop, and else the rows of `sets`
+pub record Compares (sets : List (List ℕ)) (c : Compared) (sets' : List (List ℕ)) : Type 0 where
+  pub tested-is : row-at sets' tested-row ≡ c .tested
+  pub bound-is : row-at sets' bound-row ≡ c .bound
+  pub others : (i : ℕ) → (i ≡ tested-row → ⊥) → (i ≡ bound-row → ⊥) → row-at sets' i ≡ row-at sets i
+
+-- the sets of a stop with this number: those in its rows where its test is about labels, and else none
+abbrev pub compared-in : ℕ → List (List ℕ) → Compared
+compared-in number sets = cond (about-labels number) (record { tested = row-at sets tested-row; bound = row-at sets bound-row }) no-sets
+
+-- the stop that the numbers and the sets hold
+abbrev pub halted : List ℕ → List (List ℕ) → Halt
+halted run sets = record { number = number-of run; node = node-of run; compared = compared-in (number-of run) sets }
 
 -- ---- expressions
 
--- an expression's answer as the rules' end; it writes no record, and its stops, 21 and 22, are not about labels
-unfoldable pub given : Value → Label → List ℕ → State → Out (Lab ℤ)
-given (value.Known z) label run s = done [] (record { val = z; lab = label }) s
-given value.Stopped label run s = stop [] (halted run bottom) s
+-- an expression's answer as the rules' end; it writes no record
+unfoldable pub given : Value → Label → List ℕ → List (List ℕ) → State → Out (Lab ℤ)
+given (value.Known z) label run sets s = done [] (record { val = z; lab = label }) s
+given value.Stopped label run sets s = stop [] (halted run sets) s
 
--- With any fuel that is at least what is left of the budget, m gives this answer with some label. Rights and room do not bear on it. Where
--- the value is known, the lent label became its union with that label; after a stop nobody looks at it, so nothing is said.
+-- With any fuel that is at least what is left of the budget, m gives this answer with some label. Rights and room do not bear on it, nor does
+-- what stands in the rows of a stop: its stops, 21 and 22, are not about labels. Where the value is known, the lent label became its union
+-- with that label; after a stop nobody looks at it, so nothing is said.
 pub record Gives (m : ℕ → M (Lab ℤ)) (cells : ℕ → Lab Cell) (vars : ℕ → Lab ℤ) (run : List ℕ) (before : Label) (r : Value) (run' : List ℕ) (after : Label) : Type 0 where
   pub label : Label
-  pub is : (fuel : ℕ) → left-of run ≤ fuel → (rights : Rights) (room : ℕ)
+  pub is : (fuel : ℕ) → left-of run ≤ fuel → (rights : Rights) (room : ℕ) (sets : List (List ℕ))
       → m fuel (record { cells = cells; vars = vars; rights = rights; left = left-of run; room = room })
-      ≡ given r label run' (record { cells = cells; vars = vars; rights = rights; left = left-of run'; room = room })
+      ≡ given r label run' sets (record { cells = cells; vars = vars; rights = rights; left = left-of run'; room = room })
   pub within : left-of run' ≤ left-of run
   pub used-same : used-of run' ≡ used-of run
   pub joined : {z : ℤ} → r ≡ value.Known z → after ≡ union before label
@@ -75,9 +86,9 @@ Expresses code n fuel = expr (eval (script-of code) fuel) n (exp-of (node-at (sc
 -- ---- commands
 
 -- the end of a command as the rules' end
-unfoldable pub ended : Outcome → List ℕ → Label → List Rec → State → Out (Unit {0})
-ended Done run obstacle records s = done records tt s
-ended Stopped run obstacle records s = stop records (halted run obstacle) s
+unfoldable pub ended : Outcome → List ℕ → List (List ℕ) → List Rec → State → Out (Unit {0})
+ended Done run sets records s = done records tt s
+ended Stopped run sets records s = stop records (halted run sets) s
 
 -- what a run leaves of a store beside the state of the rules: the records that it writes are the new bytes of the trace, no more is left of the
 -- budget than there was, and the public set stays
@@ -88,11 +99,11 @@ pub record Leaves (x : Store) (records : List Rec) (x' : Store) : Type 0 where
   pub within : left-of (x' .run) ≤ left-of (x .run)
   pub public-same : row-at (x' .sets) public-row ≡ row-at (x .sets) public-row
 
--- With any fuel that is at least what is left of the budget, m goes from these variables and this store to those, with the answer r.
+-- With any fuel that is at least what is left of the budget, m goes from these variables and this store to those, with the answer r. Of a stop,
+-- all that the rules give stands in the store.
 pub record Does (m : ℕ → M (Unit {0})) (vars : ℕ → Lab ℤ) (x : Store) (r : Outcome) (vars' : ℕ → Lab ℤ) (x' : Store) : Type 0 where
   pub records : List Rec
-  pub obstacle : Label
-  pub is : (fuel : ℕ) → left-of (x .run) ≤ fuel → m fuel (state vars x) ≡ ended r (x' .run) obstacle records (state vars' x')
+  pub is : (fuel : ℕ) → left-of (x .run) ≤ fuel → m fuel (state vars x) ≡ ended r (x' .run) (x' .sets) records (state vars' x')
   pub leaves : Leaves x records x'
 
 -- who runs a command: the user, and the least number of a trigger that its writes fire

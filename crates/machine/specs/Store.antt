@@ -32,9 +32,16 @@ read-row = 2
 abbrev pub write-row : ℕ
 write-row = read-row + 8
 
+-- of a stop about labels, the set that was tested and the set that it had to lie within
+abbrev pub tested-row : ℕ
+tested-row = write-row + 8
+
+abbrev pub bound-row : ℕ
+bound-row = tested-row + 1
+
 -- the label of the first cell
 abbrev pub label-row : ℕ
-label-row = write-row + 8
+label-row = bound-row + 1
 
 -- how many there are
 abbrev pub set-rows : ℕ

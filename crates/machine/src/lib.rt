@@ -10,7 +10,7 @@ ghost use Rattle.monitor.specs.Rules.{region-places};
 ghost use Rattle.monitor.specs.Call.{rows};
 ghost use Rattle.machine.specs.Script.{script-of, Runnable};
 ghost use Rattle.machine.specs.Store.{label-row, users-rows, Replaces};
-ghost use Rattle.machine.specs.Promises.{Stops, Pays};
+ghost use Rattle.machine.specs.Promises.{Stops, Compares, Pays};
 
 // The value of an expression, or none where the run stopped on the way to it.
 pub enum Value {
@@ -65,8 +65,8 @@ pub const TRIGGERS_COUNT: usize = COUNTS + 8;
 
 pub const SCRIPT_BYTES: usize = COUNTS + 10;
 
-// All sets of a run, each a row: the places that are present, those that are public, eight users' read sets and write sets, and the labels of
-// the 512 cells. The labels are last, so that a place that is none would not find another set.
+// All sets of a run, each a row: the places that are present, those that are public, eight users' read sets and write sets, the two sets of a
+// stop, and the labels of the 512 cells. The labels are last, so that a place that is none would not find another set.
 pub type Sets = [[u64; 8]; SET_ROWS];
 
 // The rows of sets; those of rights and labels are the first of theirs.
@@ -78,7 +78,12 @@ pub const READ: usize = 2;
 
 pub const WRITE: usize = READ + 8;
 
-pub const LABELS: usize = WRITE + 8;
+// Of a stop about labels: the set that was tested, and the set that it had to lie within.
+pub const TESTED: usize = WRITE + 8;
+
+pub const BOUND: usize = TESTED + 1;
+
+pub const LABELS: usize = BOUND + 1;
 
 pub const SET_ROWS: usize = LABELS + 512;
 
@@ -106,6 +111,28 @@ pub fn stop(run: &mut Run, number: u32, n: usize) -> Outcome
     run[NUMBER] = number;
     run[NODE] = n as u32;
     Outcome::Stopped
+}
+
+// Stops the run with a number on node `n`, as one set does not lie within another; both are left in the rows of a stop.
+// They are lent, so that no caller copies them before it stops. The slice tells the proof how many rows there are.
+pub fn stop_outside(
+    run: &mut Run,
+    sets: &mut Sets,
+    number: u32,
+    n: usize,
+    tested: &[u64; 8],
+    bound: &[u64; 8],
+) -> Outcome
+    requires { ⌜ n < 1024 ⌝ }
+    ensures { λ r. ⌜ (r ≡ Outcome.Stopped) × Stops (now (run .entry)) number n (now (run .exit))
+        × Compares (now (sets .entry)) (record { tested = now (tested .entry); bound = now (bound .entry) }) (now (sets .exit)) ⌝ }
+{
+    let all: &[[u64; 8]] = sets;
+    let first = *tested;
+    let second = *bound;
+    sets[TESTED] = first;
+    sets[BOUND] = second;
+    stop(run, number, n)
 }
 
 // Pays what it costs to enter node `n` of this kind, or stops with 21.

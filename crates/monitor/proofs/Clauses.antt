@@ -1,13 +1,15 @@
 -- The clauses of the rules and of a call give what is said of them, by computation. Assumes nothing.
 use mathlib.Core.Path.{refl}
-use Rattle.places.specs.Sets.{single}
+use Rattle.places.specs.Sets.{single, tally, least}
 use Rattle.labels.specs.Labels.{own-labels}
 use Rattle.book.specs.Start.{start-amounts, start-presence}
-use Rattle.monitor.specs.Call.{cells-of, amounts-in, presence-in, labels-in, start-cells, start-state, run-book, answered}
+use Rattle.monitor.specs.Call.{cells-of, amounts-in, presence-in, labels-in, start-cells, start-state, run-book, answered, call}
+use Rattle.monitor.specs.Explain.{stands, reason, explanation, explained, explain-call}
 use Rattle.book.specs.Tables.{w-file}
 use Rattle.monitor.specs.RunClauses.{RunClauses}
 use Rattle.monitor.specs.RuleClauses.{RuleClauses}
 use Rattle.monitor.specs.CallClauses.{CallClauses}
+use Rattle.monitor.specs.ExplainClauses.{ExplainClauses}
 use Rattle.monitor.proofs.Tables.{called-quick}
 
 pub run-clauses : RunClauses
@@ -31,6 +33,7 @@ run-clauses = record {
   when-not = refl;
   when-not-left = refl;
   tests = refl;
+  about = refl;
   guard-passes = refl;
   guard-stops = refl;
   guard-stops-left = refl;
@@ -190,4 +193,25 @@ call-clauses = record {
   refused-untouched = refl;
   room-of-trace = refl;
   counted = refl;
+}
+
+pub explain-clauses : ExplainClauses
+unfolding called-quick w-file cells-of amounts-in presence-in labels-in start-cells start-state run-book start-amounts start-presence own-labels single answered call tally least stands reason explanation explained explain-call
+explain-clauses = record {
+  standing = refl;
+  lowest-counted = refl;
+  first-places = refl;
+  middle-places = refl;
+  last-places = refl;
+  all-places = refl;
+  no-places = refl;
+  explained-stops = refl;
+  other-stops = refl;
+  finished = refl;
+  refused = refl;
+  raised-call = (refl, refl);
+  put-call = (refl, refl);
+  refused-call = (refl, refl);
+  refused-lent = refl;
+  w-call = refl;
 }

@@ -60,7 +60,7 @@ abbrev pub finished-run : Out (Unit {0})
 finished-run = done (said 1 (pos 5) ∷ changed 2 3 1 ∷ []) tt (having 93 0)
 
 abbrev pub stopped-run : Out (Unit {0})
-stopped-run = stop (said 1 (pos 5) ∷ []) (record { number = 27; node = 9; obstacle = [] }) (having 93 0)
+stopped-run = stop (said 1 (pos 5) ∷ []) (record { number = 27; node = 9; compared = record { tested = 7 ∷ []; bound = 1 ∷ [] } }) (having 93 0)
 
 -- the bytes of the two records
 abbrev pub two-records : List ℕ
@@ -98,7 +98,7 @@ pub record CallClauses : Type 0 where
   -- the run starts with the whole budget and the whole room, and makes the tests of labels or not
   pub runs : (ending (Call.run-book true small-book 77 9) ≡ went [] tt) × (counts (final (Call.run-book true small-book 77 9)) ≡ 76 ∷ 9 ∷ [])
   pub runs-labelled : map (λ labels. ending (Call.run-book labels raising 77 9)) (true ∷ false ∷ [])
-      ≡ halted [] 27 2 (eight 18446744073709551615) ∷ went (said 1 (pos 0) ∷ []) tt ∷ []
+      ≡ halted [] 27 2 (eight 18446744073709551615) (eight 0) ∷ went (said 1 (pos 0) ∷ []) tt ∷ []
   -- 1: each lent length, one less and one more; trace and budget at their most and one more
   pub lengths-fit : verdict-of 1000000 (lent 512 8 4096 0) ∷ verdict-of 0 (lent 512 8 4096 65536) ∷ [] ≡ verdicts.Accepted ∷ verdicts.Accepted ∷ []
   pub lengths-refused : map (verdict-of 100) (lent 511 8 4096 0 ∷ lent 513 8 4096 0 ∷ lent 512 7 4096 0 ∷ lent 512 9 4096 0 ∷ lent 512 8 4095 0 ∷ lent 512 8 4097 0 ∷ lent 512 8 4096 65537 ∷ [])

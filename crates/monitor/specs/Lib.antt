@@ -3,6 +3,7 @@ pub mod Run
 pub mod Syntax
 pub mod Rules
 pub mod Call
+pub mod Explain
 pub mod Tables
 pub mod Marked
 pub mod Examples
@@ -11,3 +12,4 @@ pub mod Samples
 pub mod RunClauses
 pub mod RuleClauses
 pub mod CallClauses
+pub mod ExplainClauses

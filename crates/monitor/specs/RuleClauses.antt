@@ -107,7 +107,7 @@ pub record RuleClauses : Type 0 where
   pub largest-below : map (λ kind. Rules.aggregate kind (held (negsuc 9) ∷ held (negsuc 3) ∷ [])) (10 ∷ 11 ∷ []) ≡ negsuc 9 ∷ negsuc 3 ∷ []
   -- 22
   pub in-range : ending (Rules.ranged 9 (labelled (pos 5) 1) sample) ≡ went [] (labelled (pos 5) 1)
-  pub out-of-range : ending (Rules.ranged 9 (labelled (pos 2147483648) 1) sample) ≡ halted [] 22 9 (eight 0)
+  pub out-of-range : ending (Rules.ranged 9 (labelled (pos 2147483648) 1) sample) ≡ halted [] 22 9 (eight 0) (eight 0)
   -- each expression: its children in order, each in the state that the one before left; its value; its label
   pub constants : ending (Rules.expr giving 9 (syntax.const (negsuc 4)) sample) ≡ went [] (lit (negsuc 4))
   pub variables : ending (Rules.expr giving 9 (syntax.var 3) sample) ≡ went [] (labelled (pos 13) 24)
@@ -124,10 +124,10 @@ pub record RuleClauses : Type 0 where
       ≡ went (said 1 (pos 4) ∷ said 2 (pos 3) ∷ said 3 (pos 2) ∷ said 5 (pos 1) ∷ [])
       (record { val = pos 6; lab = eight (46 + 2 ^ 75 + 2 ^ 76 + 2 ^ 77 + 2 ^ 83 + 2 ^ 84 + 2 ^ 85) })
   -- 22 for each: 2147483647 + 1, -2147483648 - 1, and a sum of six cells
-  pub sums-in-range : ending (Rules.expr (largest-or-one (pos 2147483647)) 9 (syntax.add 5 3) sample) ≡ halted [] 22 9 (eight 0)
-  pub differences-in-range : ending (Rules.expr (largest-or-one (negsuc 2147483647)) 9 (syntax.minus 5 3) sample) ≡ halted [] 22 9 (eight 0)
+  pub sums-in-range : ending (Rules.expr (largest-or-one (pos 2147483647)) 9 (syntax.add 5 3) sample) ≡ halted [] 22 9 (eight 0) (eight 0)
+  pub differences-in-range : ending (Rules.expr (largest-or-one (negsuc 2147483647)) 9 (syntax.minus 5 3) sample) ≡ halted [] 22 9 (eight 0) (eight 0)
   pub queries-in-range : ending (Rules.expr giving 9 (syntax.query 9 1 1 2 3 5) full)
-      ≡ halted (said 1 (pos 100) ∷ said 2 (pos 99) ∷ said 3 (pos 98) ∷ said 5 (pos 97) ∷ []) 22 9 (eight 0)
+      ≡ halted (said 1 (pos 100) ∷ said 2 (pos 99) ∷ said 3 (pos 98) ∷ said 5 (pos 97) ∷ []) 22 9 (eight 0) (eight 0)
   -- ---- contexts, keys and places
   pub inside-gains : Rules.within-label here (labelled (pos 5) 32) ≡ record { ctx = 48 ∷ []; user = 3; above = 1 }
   pub chosen : map (λ z. ending (Rules.choose z (running here 1) (running here 2) sample)) (pos 0 ∷ pos 1 ∷ negsuc 0 ∷ [])
@@ -140,10 +140,10 @@ pub record RuleClauses : Type 0 where
   pub posted : final (Rules.posting true 9 (6 ∷ []) 3 0 (key-of (pos 1) (pos 2)) (labelled (held (pos 5)) 8) sample) .cells 10 ≡ labelled (held (pos 5)) 14
   pub posted-there : map (final (Rules.posting true 9 (6 ∷ []) 5 1 (key-of (pos 1) (pos 2)) (labelled (held (pos 5)) 8) sample) .cells) (10 ∷ 74 ∷ [])
       ≡ labelled (held (pos 10)) 1046 ∷ labelled (held (pos 5)) 14 ∷ []
-  pub no-key : ending (Rules.posting true 9 (32 ∷ []) 4 0 (key-of (pos 8) (pos 2)) (labelled (held (pos 5)) 8) sample) ≡ halted [] 23 9 (eight 0)
-  pub no-right : ending (Rules.posting true 9 (32 ∷ []) 4 0 (key-of (pos 1) (pos 2)) (labelled (held (pos 5)) 8) sample) ≡ halted [] 24 9 (eight 0)
-  pub no-right-there : ending (Rules.posting true 9 (6 ∷ []) 3 1 (key-of (pos 1) (pos 2)) (labelled (held (pos 5)) 8) sample) ≡ halted [] 24 9 (eight 0)
-  pub not-within : ending (Rules.posting true 9 (38 ∷ []) 3 0 (key-of (pos 1) (pos 2)) (labelled (held (pos 5)) 8) sample) ≡ halted [] 26 9 (32 ∷ [])
+  pub no-key : ending (Rules.posting true 9 (32 ∷ []) 4 0 (key-of (pos 8) (pos 2)) (labelled (held (pos 5)) 8) sample) ≡ halted [] 23 9 (eight 0) (eight 0)
+  pub no-right : ending (Rules.posting true 9 (32 ∷ []) 4 0 (key-of (pos 1) (pos 2)) (labelled (held (pos 5)) 8) sample) ≡ halted [] 24 9 (eight 0) (eight 0)
+  pub no-right-there : ending (Rules.posting true 9 (6 ∷ []) 3 1 (key-of (pos 1) (pos 2)) (labelled (held (pos 5)) 8) sample) ≡ halted [] 24 9 (eight 0) (eight 0)
+  pub not-within : ending (Rules.posting true 9 (38 ∷ []) 3 0 (key-of (pos 1) (pos 2)) (labelled (held (pos 5)) 8) sample) ≡ halted [] 26 9 (38 ∷ []) (1046 ∷ [])
   pub not-within-passed : final (Rules.posting false 9 (38 ∷ []) 3 0 (key-of (pos 1) (pos 2)) (labelled (held (pos 5)) 8) sample) .cells 10 ≡ labelled (held (pos 5)) 46
   -- ---- triggers
   -- owner and line in the context, the amount with its own label too, and 0 for the other thirteen
@@ -175,7 +175,7 @@ pub record RuleClauses : Type 0 where
   -- 17: the label is context plus expression, and not the old one; 25 where the old one lacks the context
   pub assigns : (ending (does here (syntax.assign 6 2) sample) ≡ went (said 2 (pos 100) ∷ []) tt)
       × (map (final (does here (syntax.assign 6 2) sample) .vars) (5 ∷ 6 ∷ []) ≡ labelled (pos 15) 48 ∷ labelled (pos 2) 20 ∷ [])
-  pub assigns-not : ending (does here (syntax.assign 4 2) sample) ≡ halted (said 2 (pos 100) ∷ []) 25 9 (16 ∷ [])
+  pub assigns-not : ending (does here (syntax.assign 4 2) sample) ≡ halted (said 2 (pos 100) ∷ []) 25 9 (16 ∷ []) (32 ∷ [])
   pub assigns-unlabelled : final (does-unlabelled here (syntax.assign 4 2) sample) .vars 4 ≡ labelled (pos 2) 20
   -- 18
   pub sequences : ending (does here (syntax.seq 2 3) sample) ≡ went (changed 16 3 1 ∷ said 2 (pos 100) ∷ changed 16 3 1 ∷ said 3 (pos 99) ∷ []) tt
@@ -195,19 +195,19 @@ pub record RuleClauses : Type 0 where
       ≡ went (said 1 (pos 100) ∷ said 2 (pos 99) ∷ said 3 (pos 98) ∷ changed 22 4 4 ∷ said 43 (pos 97) ∷ []) tt
   -- place 5 of the context is not in the cell's old label, and user 4 may not write the cell
   pub puts-not : map (λ e. ending (does e (syntax.put 0 1 2 3) sample)) (in-context 32 3 ∷ in-context 16 4 ∷ [])
-      ≡ halted (said 1 (pos 100) ∷ said 2 (pos 99) ∷ said 3 (pos 98) ∷ []) 26 9 (32 ∷ []) ∷ halted (said 1 (pos 100) ∷ said 2 (pos 99) ∷ said 3 (pos 98) ∷ []) 24 9 (eight 0) ∷ []
+      ≡ halted (said 1 (pos 100) ∷ said 2 (pos 99) ∷ said 3 (pos 98) ∷ []) 26 9 (38 ∷ []) (1046 ∷ []) ∷ halted (said 1 (pos 100) ∷ said 2 (pos 99) ∷ said 3 (pos 98) ∷ []) 24 9 (eight 0) (eight 0) ∷ []
   -- 22: the cell is absent and has context plus key label; the trigger of event 2 runs
   pub clears : (ending (does here (syntax.clear 0 1 2) sample) ≡ went (said 1 (pos 100) ∷ said 2 (pos 99) ∷ changed 22 7 3 ∷ said 42 (pos 98) ∷ []) tt)
       × (final (does here (syntax.clear 0 1 2) sample) .cells 10 ≡ record { val = absent; lab = eight 22 })
   -- 23: user 2 may read places 2 and 10, and places 4 and 5 are public; place 6 is neither
   pub tells : ending (does here (syntax.out 2 2) sample) ≡ went (said 2 (pos 100) ∷ said 2 (pos 2) ∷ []) tt
-  pub tells-not : ending (does here (syntax.out 2 6) sample) ≡ halted (said 6 (pos 100) ∷ []) 27 9 (eight 64)
-  pub tells-not-in-context : ending (does (in-context 64 3) (syntax.out 2 2) sample) ≡ halted (said 2 (pos 100) ∷ []) 27 9 (eight 64)
+  pub tells-not : ending (does here (syntax.out 2 6) sample) ≡ halted (said 6 (pos 100) ∷ []) 27 9 (80 ∷ []) (eight 1076)
+  pub tells-not-in-context : ending (does (in-context 64 3) (syntax.out 2 2) sample) ≡ halted (said 2 (pos 100) ∷ []) 27 9 (68 ∷ []) (eight 1076)
   pub tells-unlabelled : ending (does-unlabelled here (syntax.out 2 6) sample) ≡ went (said 6 (pos 100) ∷ said 2 (pos 6) ∷ []) tt
   pub tells-rights : final (does here (syntax.out 2 2) sample) .rights .read 2 ≡ 1028 ∷ []
   -- 27 comes before 30
   pub tells-no-room : map (λ a. ending (does here (syntax.out 2 a) (having 100 0))) (2 ∷ 6 ∷ [])
-      ≡ halted (said 2 (pos 100) ∷ []) 30 9 (eight 0) ∷ halted (said 6 (pos 100) ∷ []) 27 9 (eight 64) ∷ []
+      ≡ halted (said 2 (pos 100) ∷ []) 30 9 (eight 0) (eight 0) ∷ halted (said 6 (pos 100) ∷ []) 27 9 (80 ∷ []) (eight 1076) ∷ []
   -- 24 and 25: user 0, in a context that is public; the record, and the right
   pub grants : map (λ c. ending (does office c sample)) (syntax.grant 3 1 1 ∷ syntax.grant 3 1 2 ∷ syntax.revoke 3 1 1 ∷ syntax.revoke 3 1 2 ∷ [])
       ≡ went (changed 2 3 1 ∷ []) tt ∷ went (changed 3 3 1 ∷ []) tt ∷ went (changed 4 3 1 ∷ []) tt ∷ went (changed 5 3 1 ∷ []) tt ∷ []
@@ -215,23 +215,23 @@ pub record RuleClauses : Type 0 where
   pub grants-writing : map (λ c. final (does office c sample) .rights .write 3) (syntax.grant 3 1 2 ∷ syntax.revoke 3 1 2 ∷ []) ≡ eight 65281 ∷ eight 1 ∷ []
   -- 28 before 29 before 30
   pub grants-not : map (λ c. ending (does (in-context 80 3) c (having 100 0))) (syntax.grant 3 1 1 ∷ syntax.revoke 3 1 1 ∷ [])
-      ≡ halted [] 28 9 (eight 0) ∷ halted [] 28 9 (eight 0) ∷ []
+      ≡ halted [] 28 9 (eight 0) (eight 0) ∷ halted [] 28 9 (eight 0) (eight 0) ∷ []
   pub grants-not-public : map (λ c. ending (does (in-context 80 0) c (having 100 0))) (syntax.grant 3 1 1 ∷ syntax.revoke 3 1 1 ∷ [])
-      ≡ halted [] 29 9 (eight 64) ∷ halted [] 29 9 (eight 64) ∷ []
+      ≡ halted [] 29 9 (80 ∷ []) (eight 48) ∷ halted [] 29 9 (80 ∷ []) (eight 48) ∷ []
   pub grants-no-room : map (λ c. ending (does office c (having 100 0))) (syntax.grant 3 1 1 ∷ syntax.revoke 3 1 1 ∷ [])
-      ≡ halted [] 30 9 (eight 0) ∷ halted [] 30 9 (eight 0) ∷ []
+      ≡ halted [] 30 9 (eight 0) (eight 0) ∷ halted [] 30 9 (eight 0) (eight 0) ∷ []
   pub grants-unlabelled : map (λ c. ending (does-unlabelled (in-context 80 0) c sample)) (syntax.grant 3 1 1 ∷ syntax.revoke 3 1 1 ∷ [])
       ≡ went (changed 2 3 1 ∷ []) tt ∷ went (changed 4 3 1 ∷ []) tt ∷ []
   -- 26: the value stays, and the label gains the region's places; 25 as for an assignment
   pub raises : map (final (does here (syntax.raise 6 1) sample) .vars) (5 ∷ 6 ∷ []) ≡ labelled (pos 15) 48 ∷ record { val = pos 16; lab = eight 65360 } ∷ []
   pub raises-unlabelled : final (does-unlabelled here (syntax.raise 4 1) sample) .vars 4 ≡ record { val = pos 14; lab = eight 65312 }
-  pub raises-not : ending (does here (syntax.raise 4 1) sample) ≡ halted [] 25 9 (16 ∷ [])
+  pub raises-not : ending (does here (syntax.raise 4 1) sample) ≡ halted [] 25 9 (16 ∷ []) (32 ∷ [])
   -- ---- nodes and programs
   pub costs : map (Rules.cost-at small-book) (0 ∷ 1 ∷ 2 ∷ []) ≡ 1 ∷ 4 ∷ 1 ∷ []
   -- with no fuel, 21 on the node; else its cost is paid, its children run with less fuel, and its rule is applied
-  pub out-of-fuel : (ending (Rules.eval small-book 0 1 sample) ≡ halted [] 21 1 (eight 0)) × (ending (Rules.exec small-book true 0 here 2 sample) ≡ halted [] 21 2 (eight 0))
+  pub out-of-fuel : (ending (Rules.eval small-book 0 1 sample) ≡ halted [] 21 1 (eight 0) (eight 0)) × (ending (Rules.exec small-book true 0 here 2 sample) ≡ halted [] 21 2 (eight 0) (eight 0))
   pub evaluates : (ending (Rules.eval small-book 1 0 sample) ≡ went [] (lit (pos 7))) × (counts (final (Rules.eval small-book 1 0 sample)) ≡ 99 ∷ 5 ∷ [])
-  pub evaluates-children : (ending (Rules.eval small-book 1 1 sample) ≡ halted [] 21 0 (eight 0)) × (counts (final (Rules.eval small-book 1 1 sample)) ≡ 96 ∷ 5 ∷ [])
-  pub evaluates-not : ending (Rules.eval small-book 9 1 (having 3 5)) ≡ halted [] 21 1 (eight 0)
+  pub evaluates-children : (ending (Rules.eval small-book 1 1 sample) ≡ halted [] 21 0 (eight 0) (eight 0)) × (counts (final (Rules.eval small-book 1 1 sample)) ≡ 96 ∷ 5 ∷ [])
+  pub evaluates-not : ending (Rules.eval small-book 9 1 (having 3 5)) ≡ halted [] 21 1 (eight 0) (eight 0)
   pub executes : (ending (Rules.exec small-book true 1 here 2 sample) ≡ went [] tt) × (counts (final (Rules.exec small-book true 1 here 2 sample)) ≡ 99 ∷ 5 ∷ [])
-  pub executes-not : ending (Rules.exec small-book true 9 here 2 (having 0 5)) ≡ halted [] 21 2 (eight 0)
+  pub executes-not : ending (Rules.exec small-book true 9 here 2 (having 0 5)) ≡ halted [] 21 2 (eight 0) (eight 0)

@@ -16,7 +16,7 @@ use Rattle.book.specs.Kinds.{cost-of}
 use Rattle.book.specs.Refusals.{no-region, no-trigger, node-at, is-zero}
 use Rattle.book.specs.Start.{public-set}
 use Rattle.monitor.specs.Labelled.{Label, bottom, Lab, lit, lift, lift2, via, under}
-use Rattle.monitor.specs.Run.{Cell, held, absent, Rights, State, said, changed, M, stop, _>>=_, _>>_, ret, look, each, when, plainly, inside, need, update, pay, set-var, set-cell, tell, sixteen, own}
+use Rattle.monitor.specs.Run.{Cell, held, absent, Rights, State, said, changed, M, stop, no-sets, _>>=_, _>>_, ret, look, each, when, plainly, inside, need, update, pay, set-var, set-cell, tell, sixteen, own}
 use Rattle.monitor.specs.Syntax.{Exp, const, var, add, minus, equal, less, query, Cmd, skip, assign, seq, branch, while, put, clear, out, grant, revoke, raise, exp-of, cmd-of}
 
 -- ---- expressions
@@ -295,11 +295,11 @@ module _ (book : Book) where
   cost-at i = cost-of (node-at book i .kind)
 
   unfoldable pub eval : ℕ → ℕ → M (Lab ℤ)
-  eval zero i = λ s. stop [] (record { number = 21; node = i; obstacle = bottom }) s
+  eval zero i = λ s. stop [] (record { number = 21; node = i; compared = no-sets }) s
   eval (suc fuel) i = pay (cost-at i) i >> expr (eval fuel) i (exp-of (node-at book i))
 
   unfoldable pub exec : Bool → ℕ → Env → ℕ → M (Unit {0})
-  exec labels zero e i = λ s. stop [] (record { number = 21; node = i; obstacle = bottom }) s
+  exec labels zero e i = λ s. stop [] (record { number = 21; node = i; compared = no-sets }) s
   exec labels (suc fuel) e i = pay (cost-at i) i >> command labels (eval fuel) (exec labels fuel) e i (cmd-of (node-at book i))
 
   -- a program: sixteen variables 0 of empty label, and the empty context

@@ -6,7 +6,8 @@ use mathlib.Core.Bool.{Bool, true, false, not, _||_, cond}
 use Prim.Native.Nat.{ℕ, _-_}
 use lib.Dec.{leb, ltb, eqb}
 use lib.IntN.{ℤ, pos}
-use Rattle.places.specs.Sets.{within, difference}
+use Rattle.places.specs.Sets.{within}
+use Rattle.book.specs.Kinds.{between}
 use Rattle.monitor.specs.Labelled.{Label, bottom, Lab}
 
 -- a cell: whether it is present, and its amount, 0 where it is absent
@@ -37,11 +38,24 @@ pub data Rec : Type 0 where
   said : ℕ → ℤ → Rec  -- out: user, amount
   changed : ℕ → ℕ → ℕ → Rec  -- kind 2 to 5, user, region
 
--- a stop: its number, its node, and the places that stood in the way: those tested and not within the bound
+-- the set that a test of labels is about, and the set that it has to lie within
+pub record Compared : Type 0 where
+  pub tested : Label
+  pub bound : Label
+
+-- a test that is not about labels compares empty sets
+abbrev pub no-sets : Compared
+no-sets = record { tested = bottom; bound = bottom }
+
+-- a stop: its number, its node, and the sets of its test
 pub record Halt : Type 0 where
   pub number : ℕ
   pub node : ℕ
-  pub obstacle : Label
+  pub compared : Compared
+
+-- the numbers of the tests that are about labels: 25, 26, 27 and 29
+abbrev pub about-labels : ℕ → Bool
+about-labels number = between 25 27 number || eqb number 29
 
 pub data Out (A : Type 0) : Type 0 where
   done : List Rec → A → State → Out A
@@ -84,22 +98,22 @@ when x m = λ s. elim x [ true ↦ m s | false ↦ done [] tt s ]
 
 -- ---- tests
 
--- a test, and what stands in its way if it fails
+-- a test, and the sets that it compares
 pub record Test : Type 0 where
   pub passes : Bool
-  pub obstacle : Label
+  pub compared : Compared
 
 -- a test that is not about labels
 abbrev pub plainly : Bool → Test
-plainly x = record { passes = x; obstacle = bottom }
+plainly x = record { passes = x; compared = no-sets }
 
 -- a label within a bound; the run with no labels omits such tests
 abbrev pub inside : Bool → Label → Label → Test
-inside labels tested bound = record { passes = not labels || within tested bound; obstacle = difference tested bound }
+inside labels tested bound = record { passes = not labels || within tested bound; compared = record { tested = tested; bound = bound } }
 
 -- stops with number n on node i unless the test passes, and else goes on from the state that was tested
 unfoldable pub guard : {A : Type 0} → (State → Test) → ℕ → ℕ → M A → M A
-guard x n i m = λ s. elim (x s .passes) [ true ↦ m s | false ↦ stop [] (record { number = n; node = i; obstacle = x s .obstacle }) s ]
+guard x n i m = λ s. elim (x s .passes) [ true ↦ m s | false ↦ stop [] (record { number = n; node = i; compared = x s .compared }) s ]
 
 unfoldable pub need : Test → ℕ → ℕ → M (Unit {0})
 need x n i = guard (λ s. x) n i (ret tt)

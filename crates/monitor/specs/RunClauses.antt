@@ -5,8 +5,12 @@ use mathlib.Core.Bool.{true, false}
 use Prim.Native.Nat.{ℕ, _+_}
 use lib.IntN.{pos, negsuc, _-ℤ_}
 use Rattle.monitor.specs.Labelled.{lit, lift, lift2, via, under}
-use Rattle.monitor.specs.Run.{held, absent, Rights, said, done, stop, M, next, each, when, Test, plainly, inside, guard, need, update, spend, with-vars, with-cells, recorded, pay, set-var, set-cell, tell, sixteen, own}
+use Rattle.monitor.specs.Run.{held, absent, Rights, said, done, stop, M, next, each, when, about-labels, Compared, Test, plainly, inside, guard, need, update, spend, with-vars, with-cells, recorded, pay, set-var, set-cell, tell, sixteen, own}
 use Rattle.monitor.specs.Samples.{went, halted, ending, final, counts, labelled, eight, sample, having}
+
+-- two sets of one word
+abbrev pub sets : ℕ → ℕ → Compared
+sets tested bound = record { tested = tested ∷ []; bound = bound ∷ [] }
 
 -- ---- runs to put together: each tells what was left of the budget, and uses up some
 
@@ -16,17 +20,17 @@ giving-seven = λ s. done (said 1 (pos (s .left)) ∷ []) 7 (spend 1 s)
 
 -- stops with 22 on node 3
 abbrev pub halting : M ℕ
-halting = λ s. stop (said 2 (pos (s .left)) ∷ []) (record { number = 22; node = 3; obstacle = 4 ∷ [] }) (spend 2 s)
+halting = λ s. stop (said 2 (pos (s .left)) ∷ []) (record { number = 22; node = 3; compared = sets 4 1 }) (spend 2 s)
 
 abbrev pub telling : ℕ → M (Unit {0})
 telling n = λ s. done (said n (pos (s .left)) ∷ []) tt (spend 1 s)
 
 -- a test that passes, and one that does not
 abbrev pub always : Test
-always = record { passes = true; obstacle = 8 ∷ [] }
+always = record { passes = true; compared = sets 8 2 }
 
 abbrev pub never : Test
-never = record { passes = false; obstacle = 8 ∷ [] }
+never = record { passes = false; compared = sets 8 2 }
 
 -- rights in which user u may read u, and write nothing
 abbrev pub other-rights : Rights → Rights
@@ -48,25 +52,28 @@ pub record RunClauses : Type 0 where
   pub in-turn : ending (next (giving-seven sample) (λ n. telling n)) ≡ went (said 1 (pos 100) ∷ said 7 (pos 99) ∷ []) tt
   pub in-turn-left : counts (final (next (giving-seven sample) (λ n. telling n))) ≡ 98 ∷ 5 ∷ []
   -- a stop ends the run: what was told stays, and nothing follows
-  pub stop-last : ending (next (giving-seven sample) (λ n. halting)) ≡ halted (said 1 (pos 100) ∷ said 2 (pos 99) ∷ []) 22 3 (4 ∷ [])
+  pub stop-last : ending (next (giving-seven sample) (λ n. halting)) ≡ halted (said 1 (pos 100) ∷ said 2 (pos 99) ∷ []) 22 3 (4 ∷ []) (1 ∷ [])
   pub stop-last-left : counts (final (next (giving-seven sample) (λ n. halting))) ≡ 97 ∷ 5 ∷ []
-  pub stop-first : ending (next (halting sample) (λ n. telling n)) ≡ halted (said 2 (pos 100) ∷ []) 22 3 (4 ∷ [])
+  pub stop-first : ending (next (halting sample) (λ n. telling n)) ≡ halted (said 2 (pos 100) ∷ []) 22 3 (4 ∷ []) (1 ∷ [])
   pub stop-first-left : counts (final (next (halting sample) (λ n. telling n))) ≡ 98 ∷ 5 ∷ []
   -- one after another
   pub each-in-order : ending (each (4 ∷ 3 ∷ []) telling sample) ≡ went (said 4 (pos 100) ∷ said 3 (pos 99) ∷ []) tt
   pub when-holds : ending (when true (telling 1) sample) ≡ went (said 1 (pos 100) ∷ []) tt
   pub when-not : ending (when false (telling 1) sample) ≡ went [] tt
   pub when-not-left : counts (final (when false (telling 1) sample)) ≡ 100 ∷ 5 ∷ []
-  -- a test of labels: within or not, and the places that the bound lacks; with no labels it passes
+  -- a test of labels: within or not, and the two sets; with no labels it passes. Else the sets are empty
   pub tests : inside true (6 ∷ []) (7 ∷ []) ∷ inside true (6 ∷ []) (3 ∷ []) ∷ inside false (6 ∷ []) (3 ∷ []) ∷ plainly true ∷ plainly false ∷ []
-      ≡ record { passes = true; obstacle = 0 ∷ [] } ∷ record { passes = false; obstacle = 4 ∷ [] } ∷ record { passes = true; obstacle = 4 ∷ [] }
-      ∷ record { passes = true; obstacle = eight 0 } ∷ record { passes = false; obstacle = eight 0 } ∷ []
+      ≡ record { passes = true; compared = sets 6 7 } ∷ record { passes = false; compared = sets 6 3 } ∷ record { passes = true; compared = sets 6 3 }
+      ∷ record { passes = true; compared = record { tested = eight 0; bound = eight 0 } } ∷ record { passes = false; compared = record { tested = eight 0; bound = eight 0 } } ∷ []
+  -- 25, 26, 27 and 29 are about labels
+  pub about : map about-labels (21 ∷ 22 ∷ 23 ∷ 24 ∷ 25 ∷ 26 ∷ 27 ∷ 28 ∷ 29 ∷ 30 ∷ [])
+      ≡ false ∷ false ∷ false ∷ false ∷ true ∷ true ∷ true ∷ false ∷ true ∷ false ∷ []
   -- a guard: passed, the run goes on from the state tested; failed, it stops there with number and node, and nothing is told
   pub guard-passes : ending (guard (λ s. always) 25 9 (telling 1) sample) ≡ went (said 1 (pos 100) ∷ []) tt
-  pub guard-stops : ending (guard (λ s. never) 25 9 (telling 1) sample) ≡ halted [] 25 9 (8 ∷ [])
+  pub guard-stops : ending (guard (λ s. never) 25 9 (telling 1) sample) ≡ halted [] 25 9 (8 ∷ []) (2 ∷ [])
   pub guard-stops-left : counts (final (guard (λ s. never) 25 9 (telling 1) sample)) ≡ 100 ∷ 5 ∷ []
   pub need-passes : ending (need always 25 9 sample) ≡ went [] tt
-  pub need-stops : ending (need never 25 9 sample) ≡ halted [] 25 9 (8 ∷ [])
+  pub need-stops : ending (need never 25 9 sample) ≡ halted [] 25 9 (8 ∷ []) (2 ∷ [])
   pub updated : map (update (λ n. n + 10) 3 7) (2 ∷ 3 ∷ 4 ∷ []) ≡ 12 ∷ 7 ∷ 14 ∷ []
   -- changes of the state: each changes its part, and the others stay
   pub spent : counts (spend 4 sample) ≡ 96 ∷ 5 ∷ []
@@ -79,26 +86,26 @@ pub record RunClauses : Type 0 where
       × (recorded other-rights sample .vars 3 ≡ labelled (pos 13) 24) × (recorded other-rights sample .cells 3 ≡ labelled (held (pos 3)) 8)
   -- 21: all that is left may be spent, and not 1 more; then nothing is
   pub paid : (ending (pay 100 9 sample) ≡ went [] tt) × (counts (final (pay 100 9 sample)) ≡ 0 ∷ 5 ∷ [])
-  pub not-paid : (ending (pay 101 9 sample) ≡ halted [] 21 9 (eight 0)) × (counts (final (pay 101 9 sample)) ≡ 100 ∷ 5 ∷ [])
+  pub not-paid : (ending (pay 101 9 sample) ≡ halted [] 21 9 (eight 0) (eight 0)) × (counts (final (pay 101 9 sample)) ≡ 100 ∷ 5 ∷ [])
   -- 25: place 4 is in variable 6's label and not in variable 4's; the new value is made from the old
   pub var-set : (ending (set-var true 9 (16 ∷ []) 6 (λ x. under (1 ∷ []) x) sample) ≡ went [] tt)
       × (map (final (set-var true 9 (16 ∷ []) 6 (λ x. under (1 ∷ []) x) sample) .vars) (5 ∷ 6 ∷ 7 ∷ [])
       ≡ labelled (pos 15) 48 ∷ labelled (pos 16) 81 ∷ labelled (pos 17) 144 ∷ [])
-  pub var-not-set : (ending (set-var true 9 (48 ∷ []) 4 (λ x. lit (pos 0)) sample) ≡ halted [] 25 9 (16 ∷ []))
+  pub var-not-set : (ending (set-var true 9 (48 ∷ []) 4 (λ x. lit (pos 0)) sample) ≡ halted [] 25 9 (48 ∷ []) (32 ∷ []))
       × (final (set-var true 9 (48 ∷ []) 4 (λ x. lit (pos 0)) sample) .vars 4 ≡ labelled (pos 14) 32)
   pub var-unlabelled : final (set-var false 9 (48 ∷ []) 4 (λ x. labelled (pos 0) 2) sample) .vars 4 ≡ labelled (pos 0) 2
   -- 26: places 1 and 2 are in cell 10's label and not in cell 11's; the new cell and its label replace the old
   pub cell-set : (ending (set-cell true 9 (6 ∷ []) 10 (labelled absent 1) sample) ≡ went [] tt)
       × (map (final (set-cell true 9 (6 ∷ []) 10 (labelled absent 1) sample) .cells) (9 ∷ 10 ∷ 11 ∷ [])
       ≡ labelled (held (pos 9)) 512 ∷ labelled absent 1 ∷ labelled (held (pos 11)) 2048 ∷ [])
-  pub cell-not-set : (ending (set-cell true 9 (2054 ∷ []) 11 (labelled absent 2054) sample) ≡ halted [] 26 9 (6 ∷ []))
+  pub cell-not-set : (ending (set-cell true 9 (2054 ∷ []) 11 (labelled absent 2054) sample) ≡ halted [] 26 9 (2054 ∷ []) (2048 ∷ []))
       × (final (set-cell true 9 (2054 ∷ []) 11 (labelled absent 2054) sample) .cells 11 ≡ labelled (held (pos 11)) 2048)
   pub cell-unlabelled : final (set-cell false 9 (6 ∷ []) 11 (labelled absent 1) sample) .cells 11 ≡ labelled absent 1
   -- 30: room for one record is enough, and used up; without room nothing is told and no right changes
   pub room-for-one : (ending (tell 9 (said 1 (pos 5)) other-rights (having 100 1)) ≡ went (said 1 (pos 5) ∷ []) tt)
       × (counts (final (tell 9 (said 1 (pos 5)) other-rights (having 100 1))) ≡ 100 ∷ 0 ∷ [])
       × (final (tell 9 (said 1 (pos 5)) other-rights (having 100 1)) .rights .read 3 ≡ 3 ∷ [])
-  pub no-room : (ending (tell 9 (said 1 (pos 5)) other-rights (having 100 0)) ≡ halted [] 30 9 (eight 0))
+  pub no-room : (ending (tell 9 (said 1 (pos 5)) other-rights (having 100 0)) ≡ halted [] 30 9 (eight 0) (eight 0))
       × (final (tell 9 (said 1 (pos 5)) other-rights (having 100 0)) .rights .read 3 ≡ 2056 ∷ [])
   -- variables 0 to 15
   pub variables : map (sixteen (labelled (pos 5) 1)) (0 ∷ 15 ∷ 16 ∷ []) ≡ labelled (pos 5) 1 ∷ labelled (pos 5) 1 ∷ record { val = pos 0; lab = [] } ∷ []
@@ -107,4 +114,4 @@ pub record RunClauses : Type 0 where
   pub vars-back : final (own (λ p. lit (pos 3)) (telling 1) sample) .vars 2 ≡ labelled (pos 12) 20
   pub vars-back-left : counts (final (own (λ p. lit (pos 3)) (telling 1) sample)) ≡ 99 ∷ 5 ∷ []
   pub vars-back-stopped : (final (own (λ p. lit (pos 3)) (need never 25 9) sample) .vars 2 ≡ labelled (pos 12) 20)
-      × (ending (own (λ p. lit (pos 3)) (need never 25 9) sample) ≡ halted [] 25 9 (8 ∷ []))
+      × (ending (own (λ p. lit (pos 3)) (need never 25 9) sample) ≡ halted [] 25 9 (8 ∷ []) (2 ∷ []))

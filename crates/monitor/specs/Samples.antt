@@ -15,14 +15,14 @@ use Rattle.monitor.specs.Rules.{Key, Env}
 
 -- ---- how a run ended
 
--- its records, and its value, or the number, the node and the obstacle of its stop
+-- its records, and its value, or the number, the node and the two sets of its stop
 pub data Ending (A : Type 0) : Type 0 where
   went : List Rec → A → Ending A
-  halted : List Rec → ℕ → ℕ → Label → Ending A
+  halted : List Rec → ℕ → ℕ → Label → Label → Ending A
 
 abbrev pub ending : {A : Type 0} → Out A → Ending A
 ending (done t a s) = went t a
-ending (stop t h s) = halted t (h .number) (h .node) (h .obstacle)
+ending (stop t h s) = halted t (h .number) (h .node) (h .compared .tested) (h .compared .bound)
 
 -- the state that it left
 abbrev pub final : {A : Type 0} → Out A → State

@@ -1,7 +1,7 @@
 -- The ways through an out: its expression stops, the user may not read the value, the trace is full, the record is written.
 -- Assumes nothing.
-use mathlib.Core.Path.{_≡_, _∙_}
-use mathlib.Core.List.{List, _∷_, _++_}
+use mathlib.Core.Path.{_≡_, refl, ap, _∙_}
+use mathlib.Core.List.{List, [], _∷_, _++_}
 use mathlib.Core.Bool.{Bool, true, false}
 use Prim.Native.Nat.{ℕ, _+_, _-_, _*_, _≤_, _<_}
 use native.Mathlib.Omega.{arith}
@@ -14,18 +14,18 @@ use Rattle.book.specs.Kinds as sorts
 use Rattle.book.specs.Refusals.{node-at}
 use Rattle.book.specs.Start.{public-set}
 use Rattle.monitor.specs.Labelled.{Label, Lab}
-use Rattle.monitor.specs.Run.{Rights, State, said, M, _>>=_, _>>_, look, Test, inside, need, tell}
+use Rattle.monitor.specs.Run.{Rights, State, said, Compared, stop, M, _>>=_, _>>_, look, Test, inside, need, tell}
 use Rattle.monitor.specs.Syntax.{out, cmd-of}
 use Rattle.monitor.specs.Rules.{command}
 use Rattle.machine.specs.Script.{script-of, Runnable, Node}
 use Rattle.machine.specs.Store.{row-at, public-row, read-row, cells-held, rights-in, used-of, run-numbers, Store, store, state, Lent}
-use Rattle.machine.specs.Promises.{Stops, Gives, Evaluates, Does, Commands, Who}
+use Rattle.machine.specs.Promises.{Stops, Compares, Gives, Evaluates, Does, Commands, Who}
 use Rattle.machine.specs.declared.Value.{Value}
 use Rattle.machine.specs.declared.Value.the-variants as value
 use Rattle.machine.specs.declared.Outcome.{Outcome}
 use Rattle.machine.specs.declared.Outcome.the-variants.{Done, Stopped}
 use Rattle.machine.proofs.Nodes.{command-is, Read, read-at, out-p, out-a}
-use Rattle.machine.proofs.Runs.{next-look, need-holds, need-fails, with-run, comes-to, does-as, stops-on, value-stops, value-goes}
+use Rattle.machine.proofs.Runs.{next-look, need-holds, need-fails, with-run, comes-to, does-as, stops-outside, value-stops, value-goes}
 use Rattle.machine.proofs.Stores.{user-row}
 use Rattle.traces.proofs.Records.{tell-full, tell-writes, said-recorded}
 
@@ -68,17 +68,23 @@ module _ (code : List ℕ) (ctx : Label) (n : ℕ) where
     -- its value, and the user p
     module _ {z : ℤ} (e : v ≡ value.Known z) {p : ℕ} (ep : p ≡ byte code (16 * n + 1)) where
       -- what the code tests
+      abbrev readable : Label
+      readable = union (row-at (x .sets) public-row) (row-at (x .sets) (read-row + p))
+
       abbrev fine : Bool
-      fine = within label (union (row-at (x .sets) public-row) (row-at (x .sets) (read-row + p)))
+      fine = within label readable
 
       abbrev test : Test
       test = reader (record { val = z; lab = d .label }) (rights-in (x .sets))
 
       -- is what the rule tests
-      same-test : {b : Bool} → fine ≡ b → test .passes ≡ b
-      same-test h =
+      same-sets : test .compared ≡ record { tested = label; bound = readable }
+      same-sets =
           let user : p ≡ node .p = ep ∙ read .p in
-          rw (← d .joined e, ← g .0 .public-is, ← user, user-row (x .sets) read-row p (rw user (out-p (script-of code) (g .0 .runnable .sound) n (g .1 .0 .inside) (g .1 .1)))) h
+          rw (← d .joined e, ← g .0 .public-is, ← user, user-row (x .sets) read-row p (rw user (out-p (script-of code) (g .0 .runnable .sound) n (g .1 .0 .inside) (g .1 .1))))
+
+      same-test : {b : Bool} → fine ≡ b → test .passes ≡ b
+      same-test h = ap (λ (c : Compared). within (c .tested) (c .bound)) same-sets ∙ h
 
       u : used-of run ≤ length (x .trace)
       u = omega (arith, d .used-same, g .0 .room)
@@ -86,9 +92,11 @@ module _ (code : List ℕ) (ctx : Label) (n : ℕ) where
       abbrev now : State
       now = state vars (with-run x run)
 
-      pub out-hidden : {r : Outcome} {run' : List ℕ} → fine ≡ false → (r ≡ Stopped) × Stops run 27 n run' → Ends r (with-run x run')
-      out-hidden h s = does-as as-out (value-goes d (λ _. says) z e (rw (s .0) (stops-on u (test .obstacle) (s .1)
-          (λ fuel _. next-look (λ s. s .rights) _ now ∙ need-fails test 27 n _ now (same-test h)))))
+      pub out-hidden : {r : Outcome} {sets : List (List ℕ)} {run' : List ℕ} → fine ≡ false
+          → (r ≡ Stopped) × Stops run 27 n run' × Compares (x .sets) (record { tested = label; bound = readable }) sets → Ends r (store (x .amounts) sets run' (x .trace))
+      out-hidden h s = does-as as-out (value-goes d (λ _. says) z e (rw (s .0) (stops-outside u refl (s .1) (s .2)
+          (λ fuel _. next-look (λ s. s .rights) _ now ∙ need-fails test 27 n _ now (same-test h)
+          ∙ ap (λ c. stop [] (record { number = 27; node = n; compared = c }) now) same-sets))))
 
       module _ (h : fine ≡ true) where
         -- what is left is to tell

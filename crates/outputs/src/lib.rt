@@ -19,7 +19,7 @@ pub fn out(
     vars: &[i32; 16],
     tags: &[[u64; 8]; 16],
     cells: &[i32; 512],
-    sets: &Sets,
+    sets: &mut Sets,
     run: &mut Run,
     trace: &mut [u8],
 ) -> Outcome
@@ -27,7 +27,7 @@ pub fn out(
     requires { ⌜ Node command (script-of (now code)) n × (node-at (script-of (now code)) n .kind ≡ 23) ⌝ }
     ensures { λ r. ⌜ ((who : Who) → Does (Commands (now (code .entry)) (now (ctx .entry)) who n)
         (vars-of (now (vars .entry)) (now (tags .entry))) (store (now (cells .entry)) (now (sets .entry)) (now (run .entry)) (now (trace .entry))) r
-        (vars-of (now (vars .entry)) (now (tags .entry))) (store (now (cells .entry)) (now (sets .entry)) (now (run .exit)) (now (trace .exit)))) ⌝ }
+        (vars-of (now (vars .entry)) (now (tags .entry))) (store (now (cells .entry)) (now (sets .exit)) (now (run .exit)) (now (trace .exit)))) ⌝ }
 {
     let at = 16 * n;
     let a = numbers::u16_at(code, at + 2);
@@ -38,9 +38,10 @@ pub fn out(
     };
     let user = numbers::byte_at(code, at + 1);
     let everyone = sets[machine::PUBLIC];
-    let fine = places::within(label, places::union(everyone, sets[machine::READ + user]));
+    let readable = places::union(everyone, sets[machine::READ + user]);
+    let fine = places::within(label, readable);
     if !fine {
-        return machine::stop(run, 27, n);
+        return machine::stop_outside(run, sets, 27, n, &label, &readable);
     }
     let all: &[u32] = run;
     let used = run[machine::USED] as usize;

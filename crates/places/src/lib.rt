@@ -1,7 +1,13 @@
 // Sets of places in eight words: place p is bit p % 64 of word p / 64.
 ghost use mathlib.Core.Path.{_≡_};
 ghost use Prim.Native.Nat.{_<_};
+ghost use lib.ListN.{length};
 ghost use Rattle.places.specs.Sets.{has, single, union, difference, within};
+
+// Tells a caller's proof that a set has eight words.
+pub fn eight(set: [u64; 8])
+    ensures { λ _. ⌜ length set ≡ 8 ⌝ }
+{}
 
 // Whether `place` is a member.
 pub fn contains(set: [u64; 8], place: usize) -> bool

@@ -7,7 +7,6 @@ ghost use mathlib.Core.Bool.{cond, true};
 ghost use Prim.Native.Nat.{_<_};
 ghost use lib.Dec.{eqb};
 ghost use lib.Bits.{bitOr, bitAnd, bitXor};
-ghost use lib.ListN.{length};
 ghost use Rattle.places.specs.Sets.{union};
 ghost use Rattle.monitor.specs.Run.{update};
 ghost use Rattle.monitor.specs.Labelled.{Label};
@@ -53,11 +52,6 @@ fn marked(event: u8, word: u64, bit: u64) -> u64
     word ^ (word & bit)
 }
 
-// Tells the proof that a row has eight words.
-fn eight(row: [u64; 8])
-    ensures { λ _. ⌜ length row ≡ 8 ⌝ }
-{}
-
 // The cell at `place` becomes an amount, or absent, with a label. The two slices tell the proof how long the arrays are.
 fn store_cell(
     amounts: &mut [i32; 512],
@@ -76,7 +70,7 @@ fn store_cell(
     let all_amounts: &[i32] = amounts;
     let all_sets: &[[u64; 8]] = sets;
     let present = sets[machine::PRESENT];
-    eight(present);
+    places::eight(present);
     let one = places::single(place);
     let word = place / 64;
     let next = marked(event, present[word], one[word]);
@@ -127,7 +121,9 @@ pub fn post(
     let context = *ctx;
     let fine = places::within(context, sets[machine::LABELS + place]);
     if !fine {
-        return stopped(run, 26, n);
+        let old = sets[machine::LABELS + place];
+        machine::stop_outside(run, sets, 26, n, ctx, &old);
+        return Posted::Stopped;
     }
     let new = *label;
     store_cell(cells, sets, place, event, key[2], new);

@@ -40,7 +40,7 @@ module _ (code : List ℕ) (n event : ℕ) {cells : ℕ → Lab Cell} {vars : �
   unfolding NewAmount given lit
   clear-amount e l = record {
     label = bottom;
-    is = λ fuel h rights room.
+    is = λ fuel h rights room sets.
         ap (λ (y : Bool). cond y (Evaluates code (node-at (script-of code) n .c) fuel) (ret (lit (pos 0)))
         (record { cells = cells; vars = vars; rights = rights; left = left-of run; room = room })) (ne-eqb event 1 e);
     within = le-refl (left-of run);

@@ -1,5 +1,5 @@
 -- What a call gives: where refusal 1 is about the budget or lent memory, and else by the file's verdict. Assumes nothing.
-use mathlib.Core.Path.{_≡_, refl, sym, ap, _∙_}
+use mathlib.Core.Path.{_≡_, refl, sym, ap}
 use mathlib.Core.List.{List}
 use mathlib.Core.Bool.{Bool, true, false, _&&_, false≢true, and-false, and-true}
 use Prim.Native.Nat.{ℕ, _≤_, _<_}
@@ -13,9 +13,11 @@ use Rattle.book.specs.declared.Verdict.the-variants as verdicts
 use Rattle.book.proofs.Chains.{both}
 use Rattle.book.proofs.Verdicts.{stops, need-stops}
 use Rattle.loader.specs.Load.{lent-fits}
-use Rattle.monitor.specs.Call.{Memory, call-verdict, answered, call}
+use Rattle.monitor.specs.Labelled.{Label}
+use Rattle.monitor.specs.Call.{Memory, Result, call-verdict, answered, call}
 use Rattle.monitor.specs.declared.Answer.the-variants.{Refused}
 use Rattle.entry.specs.Entry.{lent, result}
+use Rattle.entry.specs.Explain.{obstacle-after, obstacle-called}
 
 -- a test that fails, fails with one more
 wider : (x y z w : Bool) → (x && (y && z)) ≡ false → (x && (y && (z && w))) ≡ false
@@ -28,48 +30,49 @@ module _ (file : List ℕ) (budget : ℕ) (amounts : List ℤ) (presence labels 
   abbrev before : Memory
   before = lent amounts presence labels trace
 
-  refused-first : call-verdict file budget before ≡ verdicts.Refused 1 0 → result (Refused 1 0) before ≡ call true file budget before
-  unfolding call answered
-  refused-first e = rw e
+  -- a call that is refused leaves all as it was
+  pub refuses : {number index : ℕ} (old : Label) → call-verdict file budget before ≡ verdicts.Refused number index
+      → (result (Refused number index) before ≡ call true file budget before) × (old ≡ obstacle-called file budget before old)
+  unfolding call answered obstacle-after
+  refuses old e = (rw e, rw e)
+
+  -- and one that is accepted runs
+  pub runs : {x : Result} {places : Label} (old : Label) → call-verdict file budget before ≡ verdicts.Accepted
+      → (x ≡ answered true file budget before verdicts.Accepted) × (places ≡ obstacle-after file budget before old verdicts.Accepted)
+      → (x ≡ call true file budget before) × (places ≡ obstacle-called file budget before old)
+  unfolding call
+  runs old e r = (rw e (r .0), rw e (r .1))
 
   -- 1: the budget, or the trace, is outside its bounds
-  pub budget-over : 1000000 < budget → result (Refused 1 0) before ≡ call true file budget before
+  pub budget-over : 1000000 < budget → call-verdict file budget before ≡ verdicts.Refused 1 0
   unfolding call-verdict
-  budget-over h = refused-first (stops (verdict file) (need-stops 1 (rw (
+  budget-over h = stops (verdict file) (need-stops 1 (rw (
     lt-leb budget 1000000 h,
     and-false (leb (length trace) 65536),
     and-false (eqb (length labels) 4096),
     and-false (eqb (length presence) 8),
     and-false (eqb (length amounts) 512),
-  ))))
+  )))
 
-  pub trace-over : 65536 < length trace → result (Refused 1 0) before ≡ call true file budget before
+  pub trace-over : 65536 < length trace → call-verdict file budget before ≡ verdicts.Refused 1 0
   unfolding call-verdict
-  trace-over h = refused-first (stops (verdict file) (need-stops 1 (rw (
+  trace-over h = stops (verdict file) (need-stops 1 (rw (
     lt-leb (length trace) 65536 h,
     and-false (eqb (length labels) 4096),
     and-false (eqb (length presence) 8),
     and-false (eqb (length amounts) 512),
-  ))))
+  )))
 
   -- 1: lent memory for cells has other lengths
-  pub lengths-other : lent-fits amounts presence labels ≡ false → result (Refused 1 0) before ≡ call true file budget before
+  pub lengths-other : lent-fits amounts presence labels ≡ false → call-verdict file budget before ≡ verdicts.Refused 1 0
   unfolding call-verdict
-  lengths-other e = refused-first (stops (verdict file) (need-stops 1 (wider (eqb (length amounts) 512) (eqb (length presence) 8) (eqb (length labels) 4096) _ e)))
+  lengths-other e = stops (verdict file) (need-stops 1 (wider (eqb (length amounts) 512) (eqb (length presence) 8) (eqb (length labels) 4096) _ e))
 
   -- none of these: the file's verdict decides
-  module _ (b : budget ≤ 1000000) (t : length trace ≤ 65536) (f : lent-fits amounts presence labels ≡ true) where
-    called : call true file budget before ≡ answered true file budget before (verdict file)
-    unfolding call call-verdict and-then need
-    called = ap (answered true file budget before)
-        (rw (le-leb budget 1000000 b, le-leb (length trace) 65536 t, and-true (eqb (length labels) 4096)) (ap (λ (y : Bool). and-then (need 1 y) (verdict file)) f))
-
-    pub file-refuses : (number index : ℕ) → verdict file ≡ verdicts.Refused number index → result (Refused number index) before ≡ call true file budget before
-    unfolding answered
-    file-refuses number index q = sym (called ∙ ap (answered true file budget before) q)
-
-    pub file-runs : verdict file ≡ verdicts.Accepted → answered true file budget before verdicts.Accepted ≡ call true file budget before
-    file-runs q = sym (called ∙ ap (answered true file budget before) q)
+  pub file-decides : budget ≤ 1000000 → length trace ≤ 65536 → lent-fits amounts presence labels ≡ true → call-verdict file budget before ≡ verdict file
+  unfolding call-verdict and-then need
+  file-decides b t f =
+      rw (le-leb budget 1000000 b, le-leb (length trace) 65536 t, and-true (eqb (length labels) 4096)) (ap (λ (y : Bool). and-then (need 1 y) (verdict file)) f)
 
   pub lengths-are : lent-fits amounts presence labels ≡ true → Lengths amounts presence labels
   lengths-are f =

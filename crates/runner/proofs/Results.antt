@@ -1,5 +1,5 @@
 -- The start of a book's run in the arrays, and the end of its programs as the result of the call. Assumes nothing.
-use mathlib.Core.Path.{_≡_, sym, ap, _∙_}
+use mathlib.Core.Path.{_≡_, refl, sym, ap, _∙_}
 use mathlib.Core.List.{List, [], _++_}
 use mathlib.Core.Bool.{true}
 use Prim.Native.Nat.{ℕ, _+_, _*_, _/_, _≤_, _<_}
@@ -14,7 +14,7 @@ use Rattle.book.specs.Layout.{decode}
 use Rattle.book.specs.Start.{start-amounts, start-presence}
 use Rattle.book.specs.declared.Verdict.the-variants.{Accepted}
 use Rattle.monitor.specs.Labelled.{Label, Lab, lit}
-use Rattle.monitor.specs.Run.{Rights, Rec, sixteen}
+use Rattle.monitor.specs.Run.{Rights, State, Rec, sixteen}
 use Rattle.monitor.specs.Rules.{run}
 use Rattle.monitor.specs.Call.{Memory, cells-of, amounts-in, presence-in, labels-in, script, trace-bytes, start-cells, start-rights, start-state, run-book, memory-after, result-of, answered}
 use Rattle.monitor.proofs.Start.{start-beyond, start-label, script-start}
@@ -26,17 +26,24 @@ use Rattle.machine.specs.declared.Outcome.the-variants.{Done, Stopped}
 use Rattle.programs.specs.Programs.{Programs}
 use Rattle.start.specs.Start.{SetsOf}
 use Rattle.entry.specs.Entry.{lent, result, answer-of}
+use Rattle.entry.specs.Explain.{obstacle-of, obstacle-at, obstacle-after}
 
 -- the numbers of a run that begins
 abbrev pub begun : ℕ → List ℕ
 begun budget = set (replicate run-numbers 0) 0 budget
 
 -- the end of a run as the result
-ended-result : (budget : ℕ) (m : Memory) (o : Outcome) (obstacle : Label) (records : List Rec) (vars : ℕ → Lab ℤ) (x : Store) → used-of (x .run) ≡ 8 * length records
-    → result-of budget m (ended o (x .run) obstacle records (state vars x)) ≡ result (answer-of o (x .run) budget) (memory-after m records (state vars x))
+ended-result : (budget : ℕ) (m : Memory) (o : Outcome) (records : List Rec) (vars : ℕ → Lab ℤ) (x : Store) → used-of (x .run) ≡ 8 * length records
+    → result-of budget m (ended o (x .run) (x .sets) records (state vars x)) ≡ result (answer-of o (x .run) budget) (memory-after m records (state vars x))
 unfolding result-of ended answer-of
-ended-result budget m Done obstacle records vars x e = rw e
-ended-result budget m Stopped obstacle records vars x e = rw e
+ended-result budget m Done records vars x e = rw e
+ended-result budget m Stopped records vars x e = rw e
+
+-- and the places in its way
+ended-obstacle : (o : Outcome) (run : List ℕ) (sets : List (List ℕ)) (records : List Rec) (s : State) → obstacle-of o run sets ≡ obstacle-at (ended o run sets records s)
+unfolding obstacle-of obstacle-at ended
+ended-obstacle Done run sets records s = refl
+ended-obstacle Stopped run sets records s = refl
 
 module _ (file code : List ℕ) (same : script-of code ≡ script (decode file)) {amounts : List ℤ} {present : List ℕ} {sets : List (List ℕ)}
     (load : (amounts ≡ start-amounts (decode file)) × (present ≡ start-presence (decode file))) (h : SetsOf (script-of code) present sets) where
@@ -86,5 +93,12 @@ module _ (file code : List ℕ) (same : script-of code ≡ script (decode file))
         let n : ℕ = 8 * length (does .records) in
         let trace = does .leaves .trace-is ∙ ap (λ (k : ℕ). trace-bytes (does .records) ++ drop k (m .trace)) (zero-add n) in
         (λ i. result (answer-of r run' budget) (lent (e .0 i) (e .1 i) (e .2 i) (trace i)))
-        ∙ sym (ended-result budget m r (does .obstacle) (does .records) vars (store amounts' sets' run' trace') (does .leaves .used-is ∙ zero-add n))
+        ∙ sym (ended-result budget m r (does .records) vars (store amounts' sets' run' trace') (does .leaves .used-is ∙ zero-add n))
         ∙ ap (result-of budget m) (sym (does .is budget (le-refl budget)) ∙ runs-book)
+
+    pub run-obstacle : (old : Label) → obstacle-of r run' sets' ≡ obstacle-after file budget m old Accepted
+    unfolding obstacle-after
+    run-obstacle old =
+        let does = d vars in
+        ended-obstacle r run' sets' (does .records) (state vars (store amounts' sets' run' trace'))
+        ∙ ap obstacle-at (sym (does .is budget (le-refl budget)) ∙ runs-book)

@@ -1,4 +1,4 @@
-// The runner: the entry that takes a file, a budget and lent memory.
+// The runner: the entry that takes a file, a budget and lent memory, and what it is made of.
 use machine::Sets;
 use monitor::Answer;
 ghost use mathlib.Core.Path.{_≡_};
@@ -12,6 +12,7 @@ ghost use Rattle.loader.specs.Load.{lent-fits};
 ghost use Rattle.monitor.specs.Call.{amounts-in, presence-in, labels-in, answered};
 ghost use Rattle.machine.specs.Store.{cells-held};
 ghost use Rattle.entry.specs.Entry.{lent, result, Runs};
+ghost use Rattle.entry.specs.Explain.{obstacle-after, obstacle-called};
 
 // Stores the words of a row in lent memory.
 fn store_words(row: [u64; 8], words: &mut [u64])
@@ -43,8 +44,8 @@ fn store_cells(
     }
 }
 
-// Runs an accepted book from its start state; at the end lent memory gets its cells. The run works on arrays of its own, so that no running
-// function asks for their lengths.
+// Runs an accepted book from its start state; at the end lent memory gets its cells, and `obstacle` the places in the way of a stop. The run works
+// on arrays of its own, so that no running function asks for their lengths.
 fn started(
     file: &[u8],
     budget: u32,
@@ -52,10 +53,13 @@ fn started(
     presence: &mut [u64],
     labels: &mut [u64],
     trace: &mut [u8],
+    obstacle: &mut [u64; 8],
 ) -> Answer
     requires { ⌜ (verdict (now file) ≡ Accepted) × Lengths (now amounts) (now presence) (now labels) × (length (now trace) ≤ 65536) ⌝ }
     ensures { λ r. ⌜ result r (lent (now (amounts .exit)) (now (presence .exit)) (now (labels .exit)) (now (trace .exit)))
         ≡ answered true (now (file .entry)) budget (lent (now (amounts .entry)) (now (presence .entry)) (now (labels .entry)) (now (trace .entry))) Accepted ⌝ }
+    ensures { λ _. ⌜ now (obstacle .exit) ≡ obstacle-after (now (file .entry)) budget
+        (lent (now (amounts .entry)) (now (presence .entry)) (now (labels .entry)) (now (trace .entry))) (now (obstacle .entry)) Accepted ⌝ }
 {
     let mut cells = [0i32; 512];
     let present = loader::load_cells(file, &mut cells);
@@ -68,6 +72,8 @@ fn started(
     run[machine::LEFT] = budget;
     let outcome = programs::programs(&code, &mut cells, &mut sets, &mut run, trace);
     store_cells(&cells, &sets, amounts, presence, labels);
+    let places = entry::obstacle_of(outcome, &run, &sets);
+    *obstacle = places;
     entry::answer_of(outcome, &run, budget)
 }
 
@@ -85,17 +91,20 @@ fn lengths_fit(amounts: &[i32], presence: &[u64], labels: &[u64]) -> bool
 }
 
 // Runs the book in a file: from its start state it runs its programs, leaves in lent memory what they leave, and answers; or refuses and leaves
-// all as it was.
-pub fn run(
+// all as it was. The places in the way of a stop about labels are left in `obstacle`; after any other end of a run it is empty.
+pub fn run_to_obstacle(
     file: &[u8],
     budget: u32,
     amounts: &mut [i32],
     presence: &mut [u64],
     labels: &mut [u64],
     trace: &mut [u8],
+    obstacle: &mut [u64; 8],
 ) -> Answer
     ensures { λ r. ⌜ Runs (now (file .entry)) budget (lent (now (amounts .entry)) (now (presence .entry)) (now (labels .entry)) (now (trace .entry)))
         r (lent (now (amounts .exit)) (now (presence .exit)) (now (labels .exit)) (now (trace .exit))) ⌝ }
+    ensures { λ _. ⌜ now (obstacle .exit) ≡ obstacle-called (now (file .entry)) budget
+        (lent (now (amounts .entry)) (now (presence .entry)) (now (labels .entry)) (now (trace .entry))) (now (obstacle .entry)) ⌝ }
 {
     if 1000000 < budget {
         return Answer::Refused(1, 0);
@@ -108,6 +117,30 @@ pub fn run(
     }
     match reader::inspect(file) {
         book::Verdict::Refused(number, index) => Answer::Refused(number, index),
-        book::Verdict::Accepted => started(file, budget, amounts, presence, labels, trace),
+        book::Verdict::Accepted => started(
+            file,
+            budget,
+            amounts,
+            presence,
+            labels,
+            trace,
+            obstacle,
+        ),
     }
+}
+
+// Runs the book in a file, for those who do not ask what stood in the way.
+pub fn run(
+    file: &[u8],
+    budget: u32,
+    amounts: &mut [i32],
+    presence: &mut [u64],
+    labels: &mut [u64],
+    trace: &mut [u8],
+) -> Answer
+    ensures { λ r. ⌜ Runs (now (file .entry)) budget (lent (now (amounts .entry)) (now (presence .entry)) (now (labels .entry)) (now (trace .entry)))
+        r (lent (now (amounts .exit)) (now (presence .exit)) (now (labels .exit)) (now (trace .exit))) ⌝ }
+{
+    let mut unread = [0u64; 8];
+    run_to_obstacle(file, budget, amounts, presence, labels, trace, &mut unread)
 }

@@ -1,5 +1,5 @@
 -- The record at the end of an out, a grant or a revoke: stop 30 where the trace is full, and else its bytes. Assumes nothing.
-use mathlib.Core.Path.{_≡_, sym, _∙_}
+use mathlib.Core.Path.{_≡_, refl, sym, _∙_}
 use mathlib.Core.List.{List, [], _∷_, _++_}
 use Prim.Native.Nat.{ℕ, _+_, _-_, _≤_, _<_}
 use native.Mathlib.Omega.{arith}
@@ -8,7 +8,7 @@ use lib.IntN.{ℤ}
 use lib.ListN.{length, take, drop, set}
 use lib.Seq.{getD-set-same, getD-set-other}
 use Rattle.book.specs.Bytes.{four, bits32}
-use Rattle.monitor.specs.Labelled.{bottom, Lab}
+use Rattle.monitor.specs.Labelled.{Lab}
 use Rattle.monitor.specs.Run.{Rights, Rec, said, changed, done, plainly, commit, recorded, tell}
 use Rattle.monitor.specs.Call.{record-bytes}
 use Rattle.machine.specs.Store.{row-at, public-row, cells-held, rights-in, left-of, used-of, run-numbers, Store, store, state, room-in, with-records}
@@ -22,7 +22,7 @@ module _ (n : ℕ) (r : Rec) (f : Rights → Rights) {vars : ℕ → Lab ℤ} {x
   pub tell-full : {o : Outcome} {run : List ℕ} → used-of (x .run) ≤ length (x .trace) → length (x .trace) < used-of (x .run) + 8 → (o ≡ Stopped) × Stops (x .run) 30 n run
       → Does (λ fuel. tell n r f) vars x o vars (with-run x run)
   unfolding tell
-  tell-full u h s = rw (s .0) (stops-on u bottom (s .1)
+  tell-full u h s = rw (s .0) (stops-on u refl (s .1)
       (λ fuel _. guard-false (λ s. plainly (leb 1 (s .room))) 30 n (commit (r ∷ []) (recorded f)) (state vars x) (no-room (x .trace) (used-of (x .run)) h)))
 
   -- the sets after it have the same cells and the same public set, and the rights that f gives
@@ -39,7 +39,6 @@ module _ (n : ℕ) (r : Rec) (f : Rights → Rights) {vars : ℕ → Lab ℤ} {x
       let room : room-in (x .trace) used - 1 ≡ room-in trace (used-of run) = rw (now, et) (room-after (x .trace) used h r) in
       record {
         records = r ∷ [];
-        obstacle = bottom;
         is = λ fuel _. guard-true (λ s. plainly (leb 1 (s .room))) 30 n (commit (r ∷ []) (recorded f)) (state vars x) (some-room (x .trace) used h)
             ∙ (λ i. done (r ∷ []) tt (record { cells = ec i; vars = vars; rights = ef i; left = sym same i; room = room i }));
         leaves = record { trace-is = et; used-is = now; fits = omega (arith, now); within = omega (arith, same); public-same = ep };

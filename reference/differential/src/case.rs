@@ -1,5 +1,6 @@
 //! One case: a random file with random limits, put to both implementations.
 
+use crate::explainer::{self, Explained, NO_PLACE};
 use crate::proved::{self, Answered, Ran};
 use reference::book::Refusal;
 use reference::generate;
@@ -9,6 +10,8 @@ use reference::writer;
 
 /// Memory for one case after another, for each of the two.
 pub struct Lent {
+    /// What both have before a call.
+    drawn: Memory,
     expected: Memory,
     found: Memory,
     expected_out: Vec<u8>,
@@ -18,6 +21,7 @@ pub struct Lent {
 impl Lent {
     pub fn new() -> Lent {
         Lent {
+            drawn: Memory::new(0),
             expected: Memory::new(0),
             found: Memory::new(0),
             expected_out: Vec::new(),
@@ -25,21 +29,23 @@ impl Lent {
         }
     }
 
-    /// Draws the case of a seed and compares load, run and write. Gives how the
-    /// run ended, or what differs.
-    pub fn check(&mut self, seed: u64) -> Result<Ran, String> {
+    /// Draws the case of a seed and compares load, run, explain and write. Gives
+    /// how the explained run ended, or what differs.
+    pub fn check(&mut self, seed: u64) -> Result<Explained, String> {
         let mut random = Random::new(seed);
         let file = file(&mut random);
         self.check_load(&mut random, &file)?;
-        let ran = self.check_run(&mut random, &file)?;
+        let budget = budget(&mut random);
+        let trace = trace_length(&mut random);
+        self.soil(&mut random, trace);
+        self.check_run(&file, budget)?;
+        self.lend();
+        let explained = self.check_explain(&file, budget)?;
         self.check_write(&mut random, &file)?;
-        Ok(ran)
+        Ok(explained)
     }
 
-    fn check_run(&mut self, random: &mut Random, file: &[u8]) -> Result<Ran, String> {
-        let budget = budget(random);
-        let trace = trace_length(random);
-        self.soil(random, trace);
+    fn check_run(&mut self, file: &[u8], budget: u32) -> Result<(), String> {
         let expected = ran(run::run(file, budget, &mut self.expected, Tests::Labelled));
         let found = proved::run(
             file,
@@ -50,7 +56,21 @@ impl Lent {
             &mut self.found.trace,
         );
         same("run: answer", &expected, &found)?;
-        self.compare("run")?;
+        self.compare("run")
+    }
+
+    fn check_explain(&mut self, file: &[u8], budget: u32) -> Result<Explained, String> {
+        let expected = explained(run::explain(file, budget, &mut self.expected));
+        let found = explainer::explain(
+            file,
+            budget,
+            &mut self.found.amounts,
+            &mut self.found.presence,
+            &mut self.found.labels,
+            &mut self.found.trace,
+        );
+        same("explain: answer", &expected, &found)?;
+        self.compare("explain")?;
         Ok(found)
     }
 
@@ -95,8 +115,8 @@ impl Lent {
         same_items("write: output", &self.expected_out, &self.found_out)
     }
 
-    /// Fills both memories with the same junk, at most one of whose lengths is
-    /// not as it should be.
+    /// Draws junk, at most one of whose lengths is not as it should be, and lends
+    /// it to both.
     fn soil(&mut self, random: &mut Random, trace: usize) {
         let off = random.weighted(&[(97, [0; 3]), (1, [1, 0, 0]), (1, [0, 1, 0]), (1, [0, 0, 1])]);
         let [amounts, presence, labels] = if random.chance(50) {
@@ -104,7 +124,7 @@ impl Lent {
         } else {
             [512 + off[0], 8 + off[1], 4_096 + off[2]]
         };
-        let memory = &mut self.expected;
+        let memory = &mut self.drawn;
         memory.amounts.clear();
         memory
             .amounts
@@ -116,10 +136,17 @@ impl Lent {
         memory.labels.resize(labels, junk);
         memory.trace.clear();
         memory.trace.resize(trace, junk as u8);
-        self.found.amounts.clone_from(&memory.amounts);
-        self.found.presence.clone_from(&memory.presence);
-        self.found.labels.clone_from(&memory.labels);
-        self.found.trace.clone_from(&memory.trace);
+        self.lend();
+    }
+
+    /// Gives both what was drawn last.
+    fn lend(&mut self) {
+        for memory in [&mut self.expected, &mut self.found] {
+            memory.amounts.clone_from(&self.drawn.amounts);
+            memory.presence.clone_from(&self.drawn.presence);
+            memory.labels.clone_from(&self.drawn.labels);
+            memory.trace.clone_from(&self.drawn.trace);
+        }
     }
 
     fn compare(&self, call: &str) -> Result<(), String> {
@@ -193,6 +220,23 @@ fn ran(answer: Answer) -> Ran {
             cost,
             bytes,
         },
+    }
+}
+
+fn explained(explained: run::Explained) -> Explained {
+    let Ran {
+        number,
+        at,
+        cost,
+        bytes,
+    } = ran(explained.answer);
+    Explained {
+        number,
+        at,
+        cost,
+        bytes,
+        place: explained.place().map_or(NO_PLACE, |place| place as u32),
+        count: explained.count() as u32,
     }
 }
 

@@ -2,10 +2,11 @@
 //! the reference, and compares all that they answer and leave in memory.
 
 mod case;
+mod explainer;
 mod proved;
 
 use case::Lent;
-use proved::Ran;
+use explainer::{Explained, NO_PLACE};
 use std::collections::BTreeMap;
 use std::env;
 use std::process::ExitCode;
@@ -19,9 +20,29 @@ const USAGE: &str = "usage: differential [CASES [SEED]]
 /// For the deepest books, in the reference.
 const STACK: usize = 256 << 20;
 
-/// How many runs ended with each number: 0 finished, 1 to 10 refused, 21 to 30
-/// stopped.
-type Ends = BTreeMap<u32, u64>;
+/// Counts over cases.
+#[derive(Default)]
+struct Tally {
+    /// How many runs ended with each number: 0 finished, 1 to 10 refused, 21 to
+    /// 30 stopped.
+    ends: BTreeMap<u32, u64>,
+    /// How many explained runs named a place.
+    named: u64,
+}
+
+impl Tally {
+    fn count(&mut self, explained: &Explained) {
+        *self.ends.entry(explained.number).or_default() += 1;
+        self.named += u64::from(explained.place != NO_PLACE);
+    }
+
+    fn add(&mut self, other: Tally) {
+        for (number, count) in other.ends {
+            *self.ends.entry(number).or_default() += count;
+        }
+        self.named += other.named;
+    }
+}
 
 fn main() -> ExitCode {
     let arguments: Vec<String> = env::args().skip(1).collect();
@@ -36,11 +57,12 @@ fn main() -> ExitCode {
         }
     };
     match compare(cases, seed) {
-        Some(ends) => {
+        Some(Tally { ends, named }) => {
             println!("{cases} cases from seed {seed} on: no difference");
             for (number, count) in ends {
                 println!("  {count} runs ended with {number}");
             }
+            println!("  {named} explained runs named a place");
             ExitCode::SUCCESS
         }
         None => ExitCode::FAILURE,
@@ -49,10 +71,10 @@ fn main() -> ExitCode {
 
 /// Compares cases, and gives how their runs ended; or says on standard error
 /// which seed differs, and how.
-fn compare(cases: u64, seed: u64) -> Option<Ends> {
+fn compare(cases: u64, seed: u64) -> Option<Tally> {
     let threads = thread::available_parallelism().map_or(1, |count| count.get()) as u64;
     let failed = AtomicBool::new(false);
-    let parts: Vec<Ends> = thread::scope(|scope| {
+    let parts: Vec<Tally> = thread::scope(|scope| {
         let started: Vec<_> = (0..threads)
             .map(|first| {
                 let seeds = (first..cases).step_by(threads as usize);
@@ -71,28 +93,26 @@ fn compare(cases: u64, seed: u64) -> Option<Ends> {
     if failed.load(Ordering::Relaxed) {
         return None;
     }
-    let mut ends = Ends::new();
-    for (number, count) in parts.into_iter().flatten() {
-        *ends.entry(number).or_default() += count;
-    }
-    Some(ends)
+    let mut tally = Tally::default();
+    parts.into_iter().for_each(|part| tally.add(part));
+    Some(tally)
 }
 
 /// Compares the cases of these seeds until one differs, here or elsewhere.
-fn compare_all(seeds: impl Iterator<Item = u64>, failed: &AtomicBool) -> Ends {
+fn compare_all(seeds: impl Iterator<Item = u64>, failed: &AtomicBool) -> Tally {
     let mut lent = Lent::new();
-    let mut ends = Ends::new();
+    let mut tally = Tally::default();
     for seed in seeds {
         if failed.load(Ordering::Relaxed) {
             break;
         }
         match lent.check(seed) {
-            Ok(Ran { number, .. }) => *ends.entry(number).or_default() += 1,
+            Ok(explained) => tally.count(&explained),
             Err(difference) => {
                 eprintln!("seed {seed}: {difference}");
                 failed.store(true, Ordering::Relaxed);
             }
         }
     }
-    ends
+    tally
 }

@@ -2,11 +2,10 @@
 //! with every length of trace.
 
 use super::scripts::books;
-use super::{Case, Outcome};
+use super::Case;
 use crate::book::Book;
 use crate::generate;
 use crate::random::Random;
-use crate::run::Answer;
 
 pub(super) fn cases() -> Vec<Case> {
     let mut cases = Vec::new();
@@ -31,10 +30,7 @@ fn small(seed: u64) -> Option<Book> {
 /// The cost and the trace bytes of an accepted book, with ample budget and
 /// trace.
 fn spent(book: &Book) -> (u32, u32) {
-    match Outcome::of(&Case::ample(book.encode())).answer {
-        Answer::Ended { cost, bytes, .. } => (cost, bytes),
-        Answer::Refused(_) => (0, 0),
-    }
+    Case::ample(book.encode()).spent()
 }
 
 fn budgets(book: &Book) -> Vec<Case> {

@@ -2,12 +2,14 @@
 
 pub mod coverage;
 pub mod pairs;
+pub mod reasons;
 pub mod singles;
 
 use reference::book::Book;
 use reference::notation::list;
+use reference::places::Places;
 use reference::random::Random;
-use reference::run::{run, Answer, Memory, Tests};
+use reference::run::{explain, run, Answer, Explained, Memory, Tests};
 
 /// What a call is given beside the book.
 #[derive(Clone, Copy, Debug)]
@@ -46,13 +48,54 @@ impl Limits {
     }
 }
 
-/// How an accepted book's run ended.
+/// How an accepted book's run ended, and why if that was for labels.
 #[derive(Clone, Copy, Debug, Default, PartialEq, Eq)]
 pub struct Ended {
     pub number: u32,
     pub node: u32,
     pub cost: u32,
     pub bytes: u32,
+    pub place: Option<usize>,
+    pub count: usize,
+}
+
+impl Ended {
+    fn of(explained: &Explained) -> Result<Ended, String> {
+        match explained.answer {
+            Answer::Refused(refusal) => Err(format!("{refusal:?}")),
+            Answer::Ended {
+                number,
+                node,
+                cost,
+                bytes,
+            } => Ok(Ended {
+                number,
+                node,
+                cost,
+                bytes,
+                place: explained.place(),
+                count: explained.count(),
+            }),
+        }
+    }
+
+    /// Whether a test on labels stopped the run.
+    pub fn for_labels(&self) -> bool {
+        is_for_labels(self.number)
+    }
+
+    /// Whether a reason is given where there has to be one, and only there.
+    fn is_explained(&self) -> bool {
+        match self.place {
+            Some(place) => self.for_labels() && (1..=512 - place).contains(&self.count),
+            None => !self.for_labels() && self.count == 0,
+        }
+    }
+}
+
+/// Whether a number is that of a test on labels.
+pub fn is_for_labels(number: u32) -> bool {
+    matches!(number, 25 | 26 | 27 | 29)
 }
 
 /// Memory for one run after another, and how the last one ended.
@@ -102,22 +145,14 @@ impl Lent {
         tests: Tests,
     ) -> Result<(), String> {
         self.soil(random, limits.trace);
-        match run(file, limits.budget, &mut self.memory, tests) {
-            Answer::Refused(refusal) => return Err(format!("{refusal:?}")),
-            Answer::Ended {
-                number,
-                node,
-                cost,
-                bytes,
-            } => {
-                self.ended = Ended {
-                    number,
-                    node,
-                    cost,
-                    bytes,
-                }
-            }
-        }
+        let explained = match tests {
+            Tests::Labelled => explain(file, limits.budget, &mut self.memory),
+            Tests::Unlabelled => Explained {
+                answer: run(file, limits.budget, &mut self.memory, tests),
+                lacking: Places::EMPTY,
+            },
+        };
+        self.ended = Ended::of(&explained)?;
         self.check(book, limits)
             .map_err(|what| format!("{what}\n{}", list(book)))
     }
@@ -128,6 +163,7 @@ impl Lent {
             node,
             cost,
             bytes,
+            ..
         } = self.ended;
         let demand = |holds: bool, what: &str| match holds {
             true => Ok(()),
@@ -155,7 +191,8 @@ impl Lent {
             "stopped before the trace was used",
         )?;
         let absent_is_zero = (0..512).all(|place| self.holds(place) || self.amount(place) == 0);
-        demand(absent_is_zero, "an absent cell has an amount")
+        demand(absent_is_zero, "an absent cell has an amount")?;
+        demand(self.ended.is_explained(), "not the right reason")
     }
 
     pub fn holds(&self, place: usize) -> bool {

@@ -17,6 +17,7 @@ pub struct Pairs {
     first: Lent,
     second: Lent,
     pub coverage: Coverage,
+    pub tried: usize,
     /// Pairs of which both finished, with something for the group to see.
     pub finished_with_trace: usize,
     /// Pairs of which one stopped, with something for the group to see in both.
@@ -24,6 +25,8 @@ pub struct Pairs {
     /// Pairs of which both finished, at different costs: a secret changed the
     /// way of the run.
     pub diverged: usize,
+    /// Pairs of which a test on labels stopped at least one.
+    pub stopped_for_labels: usize,
 }
 
 impl Pairs {
@@ -32,34 +35,39 @@ impl Pairs {
             first: Lent::new(),
             second: Lent::new(),
             coverage: Coverage::default(),
+            tried: 0,
             finished_with_trace: 0,
             stopped_with_trace: 0,
             diverged: 0,
+            stopped_for_labels: 0,
         }
     }
 
-    /// Makes and runs the pair of this seed; then says what differs that the
-    /// group must not see differ.
+    /// Makes and runs the book of this seed, and compares it with others; with
+    /// more of them where a test on labels stops it.
     pub fn check(&mut self, seed: u64) -> Result<(), String> {
         let mut random = Random::new(seed);
         let book = generate::book(&mut random);
-        let group = group(&mut random, &book);
         let limits = Limits::random(&mut random);
         self.first
             .run(&mut random, &book, &book.encode(), limits, Tests::Labelled)?;
-        let reach = reach(&book, group, self.first.trace());
-        let other = generate::altered(&mut random, &book, &reach);
-        let limits = Limits::random(&mut random);
-        self.second.run(
-            &mut random,
-            &other,
-            &other.encode(),
-            limits,
-            Tests::Labelled,
-        )?;
-        self.count(&book, group);
+        self.coverage.count(&book, &self.first);
+        let others = if self.first.ended.for_labels() { 3 } else { 1 };
+        (0..others).try_for_each(|_| self.check_pair(&mut random, &book))
+    }
+
+    /// Makes and runs a book that differs in what some group cannot reach; then
+    /// says what differs that the group must not see differ.
+    fn check_pair(&mut self, random: &mut Random, book: &Book) -> Result<(), String> {
+        let group = group(random, book);
+        let reach = reach(book, group, self.first.trace());
+        let other = generate::altered(random, book, &reach);
+        let limits = Limits::random(random);
+        self.second
+            .run(random, &other, &other.encode(), limits, Tests::Labelled)?;
+        self.count(group);
         self.compare(group, &reach)
-            .map_err(|difference| self.report(&book, &other, group, &difference))
+            .map_err(|difference| self.report(book, &other, group, &difference))
     }
 
     fn compare(&self, group: u8, reach: &Places) -> Result<(), String> {
@@ -99,14 +107,16 @@ impl Pairs {
         same || !(inside(one) || inside(other))
     }
 
-    fn count(&mut self, book: &Book, group: u8) {
+    fn count(&mut self, group: u8) {
         let (one, other) = (&self.first, &self.second);
-        self.coverage.count(book, one);
+        self.tried += 1;
         let trace = [one, other].map(|lent| seen(lent.trace(), group).next().is_some());
         let finished = one.finished() && other.finished();
         self.finished_with_trace += usize::from(finished && trace[0]);
         self.stopped_with_trace += usize::from(!finished && trace[0] && trace[1]);
         self.diverged += usize::from(finished && one.ended.cost != other.ended.cost);
+        let for_labels = one.ended.for_labels() || other.ended.for_labels();
+        self.stopped_for_labels += usize::from(for_labels);
     }
 
     fn report(&self, book: &Book, other: &Book, group: u8, difference: &str) -> String {

@@ -37,7 +37,7 @@ out-requires c κs =
 
 raise-requires : tie.Need-raise-requires
 raise-requires c κs =
-    let met = c .before .before in
+    let met = c .before .before .before in
     let s = met .before .before .before in
     (s .pre .0 .runnable, s .pre .1 .0, (sym (read s .kind) ∙ met .match .keys3))
 
@@ -65,8 +65,8 @@ returns-2 c =
 
 returns-3 : tie.Need-returns-3
 returns-3 c =
-    let s = c .before .before .before .before .before .before in
-    c .raise .ensures (who-of (s .args .who .now)) (s .args .vars .now) (s .args .cells .now) (s .args .sets .now) (s .args .trace .now) (s .pre .0 .room)
+    let s = c .before .before .before .before .before .before .before in
+    c .raise .ensures (who-of (s .args .who .now)) (s .args .vars .now) (s .args .cells .now) (s .args .trace .now) (s .pre .0 .room)
 
 same-length-2 : tie.Need-same-length-2
 same-length-2 c = search needs

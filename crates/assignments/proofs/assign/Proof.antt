@@ -13,7 +13,7 @@ use Rattle.assignments.proofs.assign.Tie as tie
 -- its variable is one of sixteen
 below : (c : tie.After-byte-at) → c .byte-at .result < 16
 below c =
-    let child = c .before .before .before .before .before .before .before .before .before .before .before in
+    let child = c .before .before .before .before .before .before .before .before .before .before .before .before in
     let s = child .before .before .before .before .before .before in
     assigned _ _ (s .pre) (c .byte-at .ensures .0)
 
@@ -28,7 +28,7 @@ u16-at-requires c κs = search needs
 
 eval-requires : tie.Need-eval-requires
 eval-requires c κs =
-    let child = c .before .before .before .before .before in
+    let child = c .before .before .before .before .before .before in
     let s = child .before .before .before .before .before .before in
     (s .pre .0, assigned-value _ _ (s .pre) (child .u16-at .ensures .0))
 
@@ -42,7 +42,7 @@ enum-told c = search needs
 returns : tie.Need-returns
 returns c =
     let value = c .before .before in
-    let child = value .before .before .before .before .before .before in
+    let child = value .before .before .before .before .before .before .before in
     let s = child .before .before .before .before .before .before in
     λ who trace u. assign-fails _ _ _ who _ _ _ u (s .pre) (child .u16-at .ensures .0) (value .eval .ensures) (c .enum-told .given .1)
 
@@ -61,24 +61,30 @@ element-copy-out-old c = below (c .before)
 within-requires : tie.Need-within-requires
 within-requires c κs = search needs
 
-stop-requires : tie.Need-stop-requires
-stop-requires c κs =
-    let user = c .before .before .before .before .before in
-    let child = user .before .before .before .before .before .before .before .before .before .before .before in
+mul-stop-outside : tie.Need-mul-stop-outside
+mul-stop-outside c = search needs
+
+index-1-stop-outside : tie.Need-index-1-stop-outside
+index-1-stop-outside c = below (c .before .before .before .before .before .before)
+
+stop-outside-requires : tie.Need-stop-outside-requires
+stop-outside-requires c κs =
+    let user = c .before .before .before .before .before .before .before in
+    let child = user .before .before .before .before .before .before .before .before .before .before .before .before in
     let s = child .before .before .before .before .before .before in
     node-below _ (s .pre .0 .sound) _ (s .pre .1 .inside)
 
 -- 25: the context is not within the old label
 returns-2 : tie.Need-returns-2
 returns-2 c =
-    let test = c .before .before .before in
+    let test = c .before .before .before .before .before in
     let user = test .before .before .before in
     let known = user .before .before .before in
     let value = known .before .before in
-    let child = value .before .before .before .before .before .before in
+    let child = value .before .before .before .before .before .before .before in
     let s = child .before .before .before .before .before .before in
     λ who trace u. assign-keeps _ _ _ who _ _ _ u (s .pre) (child .u16-at .ensures .0) (value .eval .ensures) (known .amount .given .1) (user .byte-at .ensures .0)
-    (sym (test .within .ensures) ∙ not-true _ (c .before .before .if1 .taken)) (c .stop .ensures)
+    (sym (test .within .ensures) ∙ not-true _ (c .before .before .before .before .if1 .taken)) (c .stop-outside .ensures)
 
 mul-amount : tie.Need-mul-amount
 mul-amount c = search needs
@@ -98,7 +104,7 @@ returns-3 c =
     let user = c .before .before .before .before in
     let known = user .before .before .before in
     let value = known .before .before in
-    let child = value .before .before .before .before .before .before in
+    let child = value .before .before .before .before .before .before .before in
     let rows = child .before .before in
     let s = rows .before .before .before .before in
     λ who trace u. rw (toZ-ofZ {w = w32} (record { sfits = user .before .before .known-told .given .0 .1 }))
@@ -121,7 +127,9 @@ assign-spec =
     mul-old
     element-copy-out-old
     within-requires
-    stop-requires
+    mul-stop-outside
+    index-1-stop-outside
+    stop-outside-requires
     returns-2
     mul-amount
     element-set-from-amount

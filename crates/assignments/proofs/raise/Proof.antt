@@ -20,24 +20,24 @@ add-byte-at c = search needs
 byte-at-requires : tie.Need-byte-at-requires
 byte-at-requires c κs = search needs
 
-mul-old : tie.Need-mul-old
-mul-old c = search needs
+mul-held : tie.Need-mul-held
+mul-held c = search needs
 
-element-copy-out-old : tie.Need-element-copy-out-old
-element-copy-out-old c = below (c .before)
+element-copy-out-held : tie.Need-element-copy-out-held
+element-copy-out-held c = below (c .before)
 
 within-requires : tie.Need-within-requires
 within-requires c κs = search needs
 
-stop-requires : tie.Need-stop-requires
-stop-requires c κs = search needs
+stop-outside-requires : tie.Need-stop-outside-requires
+stop-outside-requires c κs = search needs
 
 -- 25: the context is not within the old label
 returns : tie.Need-returns
 returns c =
-    let user = c .before .before .before .before .before .before in
+    let user = c .before .before .before .before .before .before .before .before in
     let s = user .before .before .before .before in
-    λ who vars cells sets trace u. raise-keeps _ _ _ who _ _ _ u (s .pre) (user .byte-at .ensures .0) (sym (c .before .before .before .within .ensures) ∙ not-true _ (c .before .before .if1 .taken)) (c .stop .ensures)
+    λ who vars cells trace u. raise-keeps _ _ _ who _ _ _ u (s .pre) (user .byte-at .ensures .0) (sym (c .before .before .before .before .before .within .ensures) ∙ not-true _ (c .before .before .before .before .if1 .taken)) (c .stop-outside .ensures)
 
 add-u16-at : tie.Need-add-u16-at
 add-u16-at c = search needs
@@ -54,8 +54,8 @@ region-places-requires c κs =
 union-requires : tie.Need-union-requires
 union-requires c κs = search needs
 
-mul-t24 : tie.Need-mul-t24
-mul-t24 c = search needs
+mul-t27 : tie.Need-mul-t27
+mul-t27 c = search needs
 
 element-set-from-tags : tie.Need-element-set-from-tags
 element-set-from-tags c = below (c .before .before .before .before .before .before .before .before)
@@ -66,7 +66,7 @@ returns-2 c =
     let test = c .before .before .before .before .before in
     let user = test .before .before .before in
     let s = user .before .before .before .before in
-    λ who vars cells sets trace u. raise-sets _ _ _ who _ _ _ u (s .pre) (user .byte-at .ensures .0) (user .before .before .labels2 .given .0) (sym (test .within .ensures) ∙ not-false _ (c .before .before .before .before .if1 .left))
+    λ who vars cells trace u. raise-sets _ _ _ who _ _ _ u (s .pre) (user .byte-at .ensures .0) (user .before .before .labels2 .given .0) (sym (test .within .ensures) ∙ not-false _ (c .before .before .before .before .if1 .left))
     (rw (← c .before .before .u16-at .ensures .0, ← c .before .region-places .ensures) (c .union .ensures))
 
 pub raise-spec : {M : Type 1} → statement M
@@ -76,15 +76,15 @@ raise-spec =
     mul-at
     add-byte-at
     byte-at-requires
-    mul-old
-    element-copy-out-old
+    mul-held
+    element-copy-out-held
     within-requires
-    stop-requires
+    stop-outside-requires
     returns
     add-u16-at
     u16-at-requires
     region-places-requires
     union-requires
-    mul-t24
+    mul-t27
     element-set-from-tags
     returns-2)

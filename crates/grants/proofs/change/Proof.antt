@@ -25,15 +25,15 @@ element-copy-out-everyone c = search needs
 within-requires : tie.Need-within-requires
 within-requires c κs = search needs
 
-stop-requires-2 : tie.Need-stop-requires-2
-stop-requires-2 c κs = search needs
+stop-outside-requires : tie.Need-stop-outside-requires
+stop-outside-requires c κs = search needs
 
 -- 29: the context is not within the public set
 returns-2 : tie.Need-returns-2
 returns-2 c =
-    let test = c .before .before .before in
+    let test = c .before .before .before .before .before in
     let s = test .before .before .before .before .before .before .before .before in
-    λ vars cells. change-hidden _ _ _ _ _ _ (s .pre) (test .before .before .before .if1 .left) (sym (test .within .ensures) ∙ not-true _ (c .before .before .if2 .taken)) (c .stop2 .ensures)
+    λ vars cells. change-hidden _ _ _ _ _ _ (s .pre) (test .before .before .before .if1 .left) (sym (test .within .ensures) ∙ not-true _ (c .before .before .before .before .if2 .taken)) (c .stop-outside .ensures)
 
 element-copy-out-used : tie.Need-element-copy-out-used
 element-copy-out-used c = search needs
@@ -44,8 +44,8 @@ cast-used c = search needs
 add-if3 : tie.Need-add-if3
 add-if3 c = search needs
 
-stop-requires-3 : tie.Need-stop-requires-3
-stop-requires-3 c κs = search needs
+stop-requires-2 : tie.Need-stop-requires-2
+stop-requires-2 c κs = search needs
 
 -- 30: the trace is full
 returns-3 : tie.Need-returns-3
@@ -53,7 +53,7 @@ returns-3 c =
     let room = c .before .before in
     let test = room .before .before .before in
     let s = test .before .before .before .before .before .before .before .before in
-    λ vars cells. change-full _ _ _ _ _ _ (s .pre) (test .before .before .before .if1 .left) (sym (test .within .ensures) ∙ not-false _ (room .before .before .if2 .left)) (room .if3 .taken) (c .stop3 .ensures)
+    λ vars cells. change-full _ _ _ _ _ _ (s .pre) (test .before .before .before .if1 .left) (sym (test .within .ensures) ∙ not-false _ (room .before .before .if2 .left)) (room .if3 .taken) (c .stop2 .ensures)
 
 element-copy-out-run : tie.Need-element-copy-out-run
 element-copy-out-run c = search needs
@@ -142,12 +142,12 @@ change-spec =
     returns
     element-copy-out-everyone
     within-requires
-    stop-requires-2
+    stop-outside-requires
     returns-2
     element-copy-out-used
     cast-used
     add-if3
-    stop-requires-3
+    stop-requires-2
     returns-3
     element-copy-out-run
     add-run

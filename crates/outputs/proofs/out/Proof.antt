@@ -24,7 +24,7 @@ u16-at-requires c κs = search needs
 
 eval-requires : tie.Need-eval-requires
 eval-requires c κs =
-    let child = c .before .before .before in
+    let child = c .before .before .before .before in
     let s = child .before .before .before in
     (s .pre .0 .runnable, told-value _ _ (s .pre .0 .runnable) (s .pre .1) (child .u16-at .ensures .0))
 
@@ -38,7 +38,7 @@ enum-told c = search needs
 returns : tie.Need-returns
 returns c =
     let value = c .before .before in
-    let child = value .before .before .before .before in
+    let child = value .before .before .before .before .before in
     let s = child .before .before .before in
     λ who. out-fails _ _ _ who _ _ (s .pre) (child .u16-at .ensures .0) (value .eval .ensures) (c .enum-told .given .1)
 
@@ -66,19 +66,24 @@ union-requires c κs = search needs
 within-requires : tie.Need-within-requires
 within-requires c κs = search needs
 
-stop-requires : tie.Need-stop-requires
-stop-requires c κs = search needs
+stop-outside-requires : tie.Need-stop-outside-requires
+stop-outside-requires c κs =
+    let user = c .before .before .before .before .before .before .before .before .before in
+    let child = user .before .before .before .before .before .before .before .before .before .before in
+    let s = child .before .before .before in
+    node-below _ (s .pre .0 .runnable .sound) _ (s .pre .1 .0 .inside)
 
 -- 27: the user may not read the value
 returns-2 : tie.Need-returns-2
 returns-2 c =
-    let test = c .before .before .before in
+    let test = c .before .before .before .before .before .before in
     let user = test .before .before .before .before in
     let value = user .before .before .before .before .before in
-    let child = value .before .before .before .before in
+    let child = value .before .before .before .before .before in
     let s = child .before .before .before in
     λ who. out-hidden _ _ _ who _ _ (s .pre) (child .u16-at .ensures .0) (value .eval .ensures) (user .before .before .before .amount .given .1) (user .byte-at .ensures .0)
-    (sym (test .within .ensures ∙ ap (within _) (test .before .union .ensures)) ∙ not-true _ (c .before .before .if1 .taken)) (c .stop .ensures)
+    (sym (test .within .ensures ∙ ap (within _) (test .before .union .ensures)) ∙ not-true _ (c .before .before .before .before .before .if1 .taken))
+    (rw (← test .before .union .ensures) (c .stop-outside .ensures))
 
 element-copy-out-used : tie.Need-element-copy-out-used
 element-copy-out-used c = search needs
@@ -89,10 +94,10 @@ cast-used c = search needs
 add-if2 : tie.Need-add-if2
 add-if2 c = search needs
 
-stop-requires-2 : tie.Need-stop-requires-2
-stop-requires-2 c κs =
+stop-requires : tie.Need-stop-requires
+stop-requires c κs =
     let user = c .before .before .before .before .before .before .before .before .before .before in
-    let child = user .before .before .before .before .before .before .before .before .before in
+    let child = user .before .before .before .before .before .before .before .before .before .before in
     let s = child .before .before .before in
     node-below _ (s .pre .0 .runnable .sound) _ (s .pre .1 .0 .inside)
 
@@ -102,10 +107,10 @@ returns-3 c =
     let test = c .before .before .before .before .before .before .before in
     let user = test .before .before .before .before in
     let value = user .before .before .before .before .before in
-    let child = value .before .before .before .before in
+    let child = value .before .before .before .before .before in
     let s = child .before .before .before in
     λ who. out-full _ _ _ who _ _ (s .pre) (child .u16-at .ensures .0) (value .eval .ensures) (user .before .before .before .amount .given .1) (user .byte-at .ensures .0)
-    (sym (test .within .ensures ∙ ap (within _) (test .before .union .ensures)) ∙ not-false _ (c .before .before .before .before .before .before .if1 .left)) (c .before .before .if2 .taken) (c .stop2 .ensures)
+    (sym (test .within .ensures ∙ ap (within _) (test .before .union .ensures)) ∙ not-false _ (c .before .before .before .before .before .before .if1 .left)) (c .before .before .if2 .taken) (c .stop .ensures)
 
 bits-of-requires : tie.Need-bits-of-requires
 bits-of-requires c κs = search needs
@@ -131,7 +136,7 @@ element-copy-out-run c = search needs
 add-run : tie.Need-add-run
 add-run c =
     let value = c .before .before .before .before .before .before .before .before .before .before .before .before .before .before .before .before .before .before .before .before in
-    let child = value .before .before .before .before in
+    let child = value .before .before .before .before .before in
     let s = child .before .before .before in
     omega (arith, s .pre .0 .short, s .pre .0 .room, value .eval .ensures .used-same)
 
@@ -149,7 +154,7 @@ returns-4 c =
     let test = room .before .before .before .before .before in
     let user = test .before .before .before .before in
     let value = user .before .before .before .before .before in
-    let child = value .before .before .before .before in
+    let child = value .before .before .before .before .before in
     let s = child .before .before .before in
     λ who. out-tells _ _ _ who (vars-of (s .args .vars .now) (s .args .tags .now)) _ (s .pre) (child .u16-at .ensures .0) (value .eval .ensures) (user .before .before .before .amount .given .1) (user .byte-at .ensures .0)
     (sym (test .within .ensures ∙ ap (within _) (test .before .union .ensures)) ∙ not-false _ (room .before .before .before .before .if1 .left)) (room .before .before .all2 .given .0) (room .if2 .left) (put .put-record .ensures)
@@ -174,12 +179,12 @@ out-spec =
     element-copy-out-union
     union-requires
     within-requires
-    stop-requires
+    stop-outside-requires
     returns-2
     element-copy-out-used
     cast-used
     add-if2
-    stop-requires-2
+    stop-requires
     returns-3
     bits-of-requires
     sub-put-record

@@ -1,5 +1,5 @@
 -- `postings::post` meets its contract.
-use mathlib.Core.Path.{_≡_, sym, _∙_}
+use mathlib.Core.Path.{_≡_, refl, sym, _∙_}
 use mathlib.Core.Bool.{true}
 use Prim.Native.Nat.{ℕ, _+_}
 use borrow.Author.Needs.{needs}
@@ -108,16 +108,26 @@ element-copy-out-within c = search needs
 within-requires : tie.Need-within-requires
 within-requires c κs = search needs
 
-stopped-requires-3 : tie.Need-stopped-requires-3
-stopped-requires-3 c κs = search needs
+add-old : tie.Need-add-old
+add-old c = search needs
+
+mul-old : tie.Need-mul-old
+mul-old c = search needs
+
+element-copy-out-old : tie.Need-element-copy-out-old
+element-copy-out-old c = search needs
+
+stop-outside-requires : tie.Need-stop-outside-requires
+stop-outside-requires c κs = search needs
 
 returns-3 : tie.Need-returns-3
 returns-3 c own e =
-    let tested = c .before .before .before in
+    let tested = c .before .before .before .before .before .before in
     let may = back tested in
     let s = start (may .before .before .before .before .before) in
     stops-26 (s .args .n) (s .args .ctx .now) (s .args .user) (s .args .table) _ _ _ _ _ (keyed (may .before .before .before .before)) (s .pre .1) (allowed may)
-    (label-test tested ∙ not-true _ (c .before .before .if3 .taken)) (c .stopped3 .ensures)
+    (label-test tested ∙ not-true _ (c .before .before .before .before .before .if3 .taken)) refl (c .stop-outside .ensures .1)
+    (rw (← place-is (may .before .before .before)) (c .stop-outside .ensures .2))
 
 element-copy-out-store-cell : tie.Need-element-copy-out-store-cell
 element-copy-out-store-cell c = search needs
@@ -157,7 +167,10 @@ post-spec =
     mul-within
     element-copy-out-within
     within-requires
-    stopped-requires-3
+    add-old
+    mul-old
+    element-copy-out-old
+    stop-outside-requires
     returns-3
     element-copy-out-store-cell
     store-cell-requires

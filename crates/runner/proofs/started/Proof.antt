@@ -1,8 +1,9 @@
 -- `runner::started` meets its contract: the programs run on the arrays, and the answer is that of their end.
+use mathlib.Core.Path.{_∙_}
 use lib.IntN.{pos}
 use Rattle.monitor.specs.Labelled.{lit}
 use Rattle.monitor.specs.Run.{sixteen}
-use Rattle.runner.proofs.Results.{lent-all, run-gives}
+use Rattle.runner.proofs.Results.{lent-all, run-gives, run-obstacle}
 use borrow.Author.Needs.{needs}
 use Rattle.runner.proofs.started.Statement.{statement}
 use Rattle.runner.proofs.started.Tie as tie
@@ -33,8 +34,11 @@ programs-requires c κs =
 store-cells-requires : tie.Need-store-cells-requires
 store-cells-requires c κs = search needs
 
+obstacle-of-requires : tie.Need-obstacle-of-requires
+obstacle-of-requires c κs = search needs
+
 answer-of-requires : tie.Need-answer-of-requires
-answer-of-requires c κs = c .before .before .before .before .before .before .before .before .before .before .before .before .before .before .programs .ensures (sixteen (lit (pos 0))) .leaves .within
+answer-of-requires c κs = c .before .before .before .before .before .before .before .before .before .before .before .before .before .before .before .before .before .programs .ensures (sixteen (lit (pos 0))) .leaves .within
 
 same-length : tie.Need-same-length
 same-length c = search needs
@@ -50,14 +54,17 @@ same-length-4 c = search needs
 
 returns : tie.Need-returns
 returns c =
-    let stored = c .before .before .before .before .before .before .before in
+    let stored = c .before .before .before .before .before .before .before .before .before .before in
     let ran = stored .before .before .before .before .before .before .before .before in
     let sets = ran .before .before .before .before .before .before in
     let script = sets .before .before .before in
     let load = script .before .before .before in
-    let s = load .before .before .before .before .before .before in
-    rw (c .answer-of .ensures)
-    (run-gives (s .args .file .now) _ (script .copy-script .ensures .1) (load .load-cells .ensures) (sets .start-sets .ensures) _ (ran .programs .ensures) (stored .store-cells .ensures))
+    let s = load .before .before .before .before .before .before in (
+      rw (c .answer-of .ensures)
+          (run-gives (s .args .file .now) _ (script .copy-script .ensures .1) (load .load-cells .ensures) (sets .start-sets .ensures) _ (ran .programs .ensures) (stored .store-cells .ensures)),
+      c .before .before .obstacle-of .ensures
+          ∙ run-obstacle (s .args .file .now) _ (script .copy-script .ensures .1) (load .load-cells .ensures) (sets .start-sets .ensures) _ (ran .programs .ensures) _,
+    )
 
 pub started-spec : {M : Type 1} → statement M
 started-spec =
@@ -70,6 +77,7 @@ started-spec =
     array-write-run
     programs-requires
     store-cells-requires
+    obstacle-of-requires
     answer-of-requires
     same-length
     same-length-2

@@ -1,0 +1,4 @@
+// The program that names the cell. Its committed input is book W.
+fn main() {
+    listing::list_explained();
+}
