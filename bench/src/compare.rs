@@ -67,7 +67,7 @@ pub fn random_books(cases: u64) -> Result<[u64; 3], String> {
 
 /// Gives the number that the run answers.
 fn random_book(random: &mut Random) -> Result<u32, String> {
-    let book = generate::book(random);
+    let book = generate::often_failing(random);
     let file = if random.chance(25) {
         generate::damaged(random, &book)
     } else {

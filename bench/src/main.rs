@@ -19,7 +19,8 @@ With no option: compares the sides on 5000 random books and on the workloads,
 and then times the workloads.
   --compare   only compares the sides on random books
   --workload  only calls one side on one workload, for a profiler
-  NAME        arithmetic, queries, postings, smallest, reading or writing
+  NAME        arithmetic, queries, postings, cascades, cascades-double, smallest,
+              reading or writing
   SIDE        proved, handwritten, or plain for hand-written with no labels";
 
 const CASES: u64 = 5_000;

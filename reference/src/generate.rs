@@ -37,6 +37,17 @@ enum Size {
 
 /// A random book that the decoder accepts.
 pub fn book(random: &mut Random) -> Book {
+    make(random, false)
+}
+
+/// A random book in which, two times of five, triggers are made to stop after
+/// they have written cells.
+pub fn often_failing(random: &mut Random) -> Book {
+    let failing = random.chance(40);
+    make(random, failing)
+}
+
+fn make(random: &mut Random, failing: bool) -> Book {
     if random.below(300) == 0 {
         return deep::book(random);
     }
@@ -46,7 +57,7 @@ pub fn book(random: &mut Random) -> Book {
         (14, Size::Middle),
         (1, Size::Full),
     ]);
-    let world = World::new(random, size);
+    let world = World::new(random, size, failing);
     let (for_triggers, for_programs) = match size {
         Size::Tiny => (25, 50),
         Size::Small => (60, 120),
@@ -85,6 +96,7 @@ fn triggers(
         Size::Middle => random.between(1, 6),
         Size::Full => 8,
     };
+    let count = count.max(usize::from(world.failing));
     let mut triggers = Vec::with_capacity(count);
     for number in 0..count {
         let user = world.script_user(random);
@@ -93,7 +105,10 @@ fn triggers(
         let length = random.between(1, 2);
         let mut start = *guess;
         let mut script = Script::for_trigger(random, world, pool, &mut start, user);
-        let body = script.block(length, 1);
+        let body = match world.failing {
+            true => script.failing_body(length),
+            false => script.block(length, 1),
+        };
         let writes = script.touched;
         guess.add_trigger(number, event, world.covers[region], writes);
         triggers.push(Trigger {

@@ -3,7 +3,7 @@
 use crate::book::{kind, Book, Node};
 use crate::places::{place, Places};
 use crate::rights::Rights;
-use crate::run::{Memory, Tests};
+use crate::run::{Failed, Memory, Tests};
 
 const PUT_EVENT: u8 = 1;
 const CLEAR_EVENT: u8 = 2;
@@ -74,6 +74,12 @@ struct Scope {
     first_trigger: usize,
 }
 
+impl Scope {
+    fn is_program(&self) -> bool {
+        self.first_trigger == 0
+    }
+}
+
 /// A put or clear whose tests are passed.
 struct Write {
     event: u8,
@@ -86,15 +92,28 @@ struct Write {
     context: Places,
 }
 
+/// All of a cell.
+#[derive(Clone, Copy, PartialEq, Eq)]
+struct Cell {
+    amount: i32,
+    present: bool,
+    label: Places,
+}
+
 /// A run under way.
 pub(crate) struct Interpreter<'a> {
     book: &'a Book,
     memory: &'a mut Memory,
     budget: u32,
     tests: Tests,
+    failed: Failed,
     rights: Rights,
     cost: u32,
     bytes: usize,
+    /// What each write of the last posting found, in order: that of the
+    /// program's own command first, then those of its triggers.
+    found: Vec<(usize, Cell)>,
+    taken_back: Places,
 }
 
 impl<'a> Interpreter<'a> {
@@ -104,15 +123,19 @@ impl<'a> Interpreter<'a> {
         memory: &'a mut Memory,
         budget: u32,
         tests: Tests,
+        failed: Failed,
     ) -> Interpreter<'a> {
         Interpreter {
             book,
             memory,
             budget,
             tests,
+            failed,
             rights: Rights::at_start(book),
             cost: 0,
             bytes: 0,
+            found: Vec::new(),
+            taken_back: Places::EMPTY,
         }
     }
 
@@ -124,6 +147,11 @@ impl<'a> Interpreter<'a> {
     /// The trace bytes written so far.
     pub(crate) fn bytes(&self) -> usize {
         self.bytes
+    }
+
+    /// The places of the cells that a posting's being taken back has changed.
+    pub(crate) fn taken_back(&self) -> Places {
+        self.taken_back
     }
 
     /// Runs every program in order. Cells, labels, rights, cost and trace carry
@@ -328,7 +356,8 @@ impl<'a> Interpreter<'a> {
         Ok(())
     }
 
-    /// Puts or clears a cell, then runs the triggers.
+    /// Puts or clears a cell, then runs the triggers. If one of them stops, at
+    /// whatever depth, all that the program's own command began is taken back.
     fn write(
         &mut self,
         number: u16,
@@ -337,8 +366,34 @@ impl<'a> Interpreter<'a> {
         scope: &Scope,
     ) -> Result<(), Stop> {
         let write = self.checked_write(number, node, context, scope)?;
+        if scope.is_program() {
+            self.found.clear();
+        }
         self.store(&write);
-        self.fire(&write, scope.first_trigger)
+        let fired = self.fire(&write, scope.first_trigger);
+        if fired.is_err() && scope.is_program() && self.failed == Failed::TakenBack {
+            self.take_back();
+        }
+        fired
+    }
+
+    /// Gives every cell that the last posting wrote what it held before: the
+    /// latest write first, so that a cell written more than once ends with what
+    /// its first write found.
+    fn take_back(&mut self) {
+        let written: Vec<(usize, Cell)> = self
+            .found
+            .iter()
+            .map(|&(place, _)| (place, self.cell(place)))
+            .collect();
+        for (place, cell) in std::mem::take(&mut self.found).into_iter().rev() {
+            self.set_cell(place, &cell);
+        }
+        for (place, cell) in written {
+            if self.cell(place) != cell {
+                self.taken_back.insert(place);
+            }
+        }
     }
 
     /// The children of a put or clear, then its tests.
@@ -378,15 +433,13 @@ impl<'a> Interpreter<'a> {
     /// absent cell changes the label all the same.
     fn store(&mut self, write: &Write) {
         let place = write.place();
-        let bit = 1 << (place % 64);
-        self.memory.amounts[place] = write.amount.value;
-        if write.event == PUT_EVENT {
-            self.memory.presence[place / 64] |= bit;
-        } else {
-            self.memory.presence[place / 64] &= !bit;
-        }
-        let label = write.context.union(&write.amount.label);
-        self.memory.labels[8 * place..8 * place + 8].copy_from_slice(&label.0);
+        self.found.push((place, self.cell(place)));
+        let cell = Cell {
+            amount: write.amount.value,
+            present: write.event == PUT_EVENT,
+            label: write.context.union(&write.amount.label),
+        };
+        self.set_cell(place, &cell);
     }
 
     /// Runs the triggers from number `first` on that this write sets off. Kept
@@ -438,6 +491,25 @@ impl<'a> Interpreter<'a> {
         rest[4..8].copy_from_slice(&amount.to_le_bytes());
         self.bytes += 8;
         Ok(())
+    }
+
+    fn cell(&self, place: usize) -> Cell {
+        Cell {
+            amount: self.memory.amounts[place],
+            present: self.is_present(place),
+            label: self.cell_label(place),
+        }
+    }
+
+    fn set_cell(&mut self, place: usize, cell: &Cell) {
+        let bit = 1 << (place % 64);
+        self.memory.amounts[place] = cell.amount;
+        if cell.present {
+            self.memory.presence[place / 64] |= bit;
+        } else {
+            self.memory.presence[place / 64] &= !bit;
+        }
+        self.memory.labels[8 * place..8 * place + 8].copy_from_slice(&cell.label.0);
     }
 
     fn is_present(&self, place: usize) -> bool {

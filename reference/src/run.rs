@@ -66,6 +66,15 @@ pub enum Tests {
     Unlabelled,
 }
 
+/// What becomes of a program's put or clear when a stop falls inside the body of
+/// a trigger that it set off, directly or by way of others. Runs take it back;
+/// that it is left, as far as it came, is for comparison only.
+#[derive(Clone, Copy, Debug, PartialEq, Eq)]
+pub enum Failed {
+    TakenBack,
+    Left,
+}
+
 /// The answer of a run. `number` and `node` are 0 if it finished; `bytes` is
 /// how much of the trace was written.
 #[derive(Clone, Copy, Debug, PartialEq, Eq)]
@@ -88,20 +97,25 @@ impl Answer {
     }
 }
 
-/// The answer of a run, and why a test on labels stopped it.
+/// The answer of a run, why a test on labels stopped it, and what the stop took
+/// back.
 #[derive(Clone, Copy, Debug, PartialEq, Eq)]
 pub struct Explained {
     pub answer: Answer,
     /// The places of the tested set that the set it had to lie within lacked at
     /// the stop. Empty for every answer but 25, 26, 27 and 29.
     pub lacking: Places,
+    /// The places of the cells that are not as they were at the stop, as the
+    /// posting that failed is taken back. No part of what the office is told.
+    pub taken_back: Places,
 }
 
 impl Explained {
-    fn without_reason(answer: Answer) -> Explained {
+    fn refused(refusal: Refusal) -> Explained {
         Explained {
-            answer,
+            answer: Answer::Refused(refusal),
             lacking: Places::EMPTY,
+            taken_back: Places::EMPTY,
         }
     }
 
@@ -133,24 +147,31 @@ pub fn load(file: &[u8], memory: &mut Memory) -> Result<Book, Refusal> {
 
 /// Runs a book. A refusal leaves all of `memory` as it was.
 pub fn run(file: &[u8], budget: u32, memory: &mut Memory, tests: Tests) -> Answer {
-    carry_out(file, budget, memory, tests).answer
+    carry_out(file, budget, memory, tests, Failed::TakenBack).answer
 }
 
 /// Runs a book in the same way, with labels, and tells why a test on them
 /// stopped it.
 pub fn explain(file: &[u8], budget: u32, memory: &mut Memory) -> Explained {
-    carry_out(file, budget, memory, Tests::Labelled)
+    carry_out(file, budget, memory, Tests::Labelled, Failed::TakenBack)
 }
 
-fn carry_out(file: &[u8], budget: u32, memory: &mut Memory, tests: Tests) -> Explained {
+/// Runs a book, with the choices that `run` and `explain` make given.
+pub fn carry_out(
+    file: &[u8],
+    budget: u32,
+    memory: &mut Memory,
+    tests: Tests,
+    failed: Failed,
+) -> Explained {
     if budget > MOST_BUDGET {
-        return Explained::without_reason(Answer::Refused(REFUSED_1));
+        return Explained::refused(REFUSED_1);
     }
     let book = match load(file, memory) {
         Ok(book) => book,
-        Err(refusal) => return Explained::without_reason(Answer::Refused(refusal)),
+        Err(refusal) => return Explained::refused(refusal),
     };
-    let mut interpreter = Interpreter::new(&book, memory, budget, tests);
+    let mut interpreter = Interpreter::new(&book, memory, budget, tests, failed);
     let (number, node, lacking) = match interpreter.programs() {
         Ok(()) => (0, 0, Places::EMPTY),
         Err(Stop { number, node, flow }) => {
@@ -167,6 +188,7 @@ fn carry_out(file: &[u8], budget: u32, memory: &mut Memory, tests: Tests) -> Exp
             bytes: interpreter.bytes() as u32,
         },
         lacking,
+        taken_back: interpreter.taken_back(),
     }
 }
 

@@ -18,6 +18,7 @@ mod scripts;
 mod stops;
 mod succession;
 mod sweeps;
+mod taken_back;
 mod values;
 mod views;
 
@@ -106,6 +107,7 @@ pub fn all() -> Vec<Case> {
         sample::cases(),
         deep::cases(),
         explanations::cases(),
+        taken_back::cases(),
     ]
     .concat();
     for (number, case) in cases.iter_mut().enumerate() {

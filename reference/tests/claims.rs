@@ -10,6 +10,7 @@ use reference::run::{explain, on_deep_stack, run, Answer, Tests};
 use std::ops::Range;
 use support::coverage::Coverage;
 use support::pairs::Pairs;
+use support::postings::Postings;
 use support::reasons::Reasons;
 use support::singles::Singles;
 use support::{is_for_labels, Lent};
@@ -22,6 +23,10 @@ const SINGLES: u64 = 52_000;
 /// Pairs for each test function of which a test on labels stops at least one:
 /// 200,000 in all four.
 const PAIRS_STOPPED_FOR_LABELS: usize = 50_000;
+
+/// Pairs for each test function of which at least one takes a posting back:
+/// 200,000 in all four too.
+const PAIRS_THAT_TOOK_BACK: usize = 50_000;
 
 /// Tries every seed; then tells how many failed, and the first of them whole.
 fn try_seeds(seeds: Range<u64>, mut check: impl FnMut(u64) -> Result<(), String>) {
@@ -59,8 +64,11 @@ fn demand_3(part: u64) {
         assert!(pairs.stopped_with_trace > count / 12);
         assert!(pairs.diverged > count / 70);
         let (tried, for_labels) = (pairs.tried, pairs.stopped_for_labels);
+        let taken_back = pairs.taken_back;
         println!("{tried} pairs, of which {for_labels} stopped for labels");
+        println!("{taken_back} of them took a posting back");
         assert!(for_labels >= PAIRS_STOPPED_FOR_LABELS);
+        assert!(taken_back >= PAIRS_THAT_TOOK_BACK);
     });
 }
 
@@ -131,6 +139,23 @@ fn reasons_are_true() {
     });
 }
 
+/// Taking a posting back changes cells of stopped runs and nothing else, and
+/// leaves the cells as they were before the posting.
+#[test]
+fn postings_are_taken_back_whole() {
+    on_deep_stack(|| {
+        let mut postings = Postings::default();
+        // Other seeds than those above.
+        let first = 3 << 32;
+        try_seeds(first..first + 20_000, |seed| postings.check(seed));
+        println!("{postings:?}");
+        assert!(postings.finished >= 5_000, "{postings:?}");
+        assert!(postings.stopped >= 5_000, "{postings:?}");
+        assert!(postings.taken_back >= 4_000, "{postings:?}");
+        assert!(postings.cut_short >= 3_500, "{postings:?}");
+    });
+}
+
 /// Explaining answers and leaves what running does.
 #[test]
 fn explaining_is_running() {
@@ -165,7 +190,7 @@ fn explaining_is_running() {
 /// A book's file and budget, and memory that is lent to it.
 fn ample(random: &mut Random, lent: &mut Lent) -> (Vec<u8>, u32) {
     lent.soil(random, 500);
-    (generate::book(random).encode(), 2_500)
+    (generate::often_failing(random).encode(), 2_500)
 }
 
 /// The same, where the file is damaged and a length or the budget may be off.

@@ -2,19 +2,24 @@
 //! and the reasons for stops, were worked out by hand.
 
 use reference::notation::assemble;
+use reference::places::place;
+use reference::run::{run, Memory, Tests};
 use reference::run_list::run_list;
 use std::fs;
 use std::path::PathBuf;
 
 /// What an example's explanation ends with, where a test on labels stops it. In
-/// `posting` the control total has what was copied from the bank's line; in the
-/// others, owner 2's eight lines are what owner 1 or his variable lacks.
-const REASONS: [(&str, &str); 5] = [
+/// `posting` the control total has what was copied from the bank's line. In
+/// `taken_back` owner 2's total has his lines but for line 1, whose label was
+/// empty until the rent there was taken back. In the others, owner 2's eight
+/// lines are what owner 1 or his variable lacks.
+const REASONS: [(&str, &str); 6] = [
     ("w", "place 0 2 0 count 8\n"),
     ("grant", "place 0 2 0 count 8\n"),
     ("leak", "place 0 2 0 count 8\n"),
     ("raised", "place 0 2 0 count 8\n"),
     ("posting", "place 0 2 3 count 1\n"),
+    ("taken_back", "place 0 2 0 count 7\n"),
 ];
 
 /// What marks an expected line inside a comment.
@@ -61,5 +66,28 @@ fn each_explanation_adds_its_reason() {
         let reason = reason.map_or("place none count 0\n", |(_, reason)| reason);
         let explained = fs::read_to_string(&path).unwrap();
         assert_eq!(explained, listed + reason, "{name}");
+    }
+}
+
+/// What the comment of `taken_back` says of the cells: owner, rent and total.
+#[test]
+fn the_failed_posting_is_taken_back_and_the_other_stays() {
+    let text = include_str!("../../examples/taken_back.txt");
+    let file = assemble(text).unwrap().encode();
+    let mut memory = Memory::new(4_096);
+    run(&file, 100_000, &mut memory, Tests::Labelled);
+    let amount = |place: usize| {
+        let present = memory.presence[place / 64] >> (place % 64) & 1 == 1;
+        present.then_some(memory.amounts[place])
+    };
+    for (owner, rent, total) in [(1, Some(700), Some(950)), (2, None, Some(30))] {
+        assert_eq!(amount(place(0, owner, 1)), rent);
+        assert_eq!(amount(place(1, owner, 0)), total);
+        assert_eq!(amount(place(2, owner, 0)), None);
+    }
+    for place in [place(0, 2, 1), place(1, 2, 0)] {
+        let mut own = [0; 8];
+        own[place / 64] = 1 << (place % 64);
+        assert_eq!(memory.labels[8 * place..8 * place + 8], own);
     }
 }

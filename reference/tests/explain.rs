@@ -375,3 +375,27 @@ fn a_full_trace_names_none() {
         assert_eq!(reason_with(&book, 100, 8), (0, None, 0));
     }
 }
+
+/// The trigger gives the cell (2,0,0) the label of C alone, and then writes it in
+/// the context of table 2. All 64 places of the table are lacking then; as the
+/// cell is before and after, its own would not be.
+#[test]
+fn a_cell_is_read_before_it_is_taken_back() {
+    let mut b = eight_tables();
+    let relabelled = one(&mut b, 0, 0, 2);
+    let [owner, line] = [0, 0].map(|k| b.constant(k));
+    let relabel = b.put(2, owner, line, relabelled);
+    let raise = b.raise(3, 2);
+    let raised = b.variable(3);
+    let write = put(&mut b, 2, 0, 0);
+    let stopped = inside(&mut b, raised, write);
+    let first = b.then(relabel, raise);
+    let body = b.then(first, stopped);
+    b.put_trigger(1, 0, body);
+    let posting = put(&mut b, 1, 0, 0);
+    let book = program(b, &[posting]);
+    assert_eq!(reason(&book), (26, Some([2, 0, 0]), 64));
+    let (_, memory) = run_with(&book, 10_000, 0);
+    let own = [0, 0, 1, 0, 0, 0, 0, 0];
+    assert_eq!(memory.labels[8 * 128..8 * 129], own);
+}

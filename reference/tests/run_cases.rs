@@ -1,8 +1,12 @@
 //! The cases for runners of books: their stream, their lines, and that they meet
 //! enough.
 
+#[path = "common/commands.rs"]
+mod commands;
 #[path = "run_cases/reasons.rs"]
 mod reasons;
+#[path = "run_cases/taken_back.rs"]
+mod taken_back;
 #[path = "common/w.rs"]
 mod w;
 
@@ -11,6 +15,7 @@ use reference::book::{kind, Book, Refusal};
 use reference::run::{on_deep_stack, Answer};
 use reference::run_cases::{all, answers, stream, Case, Lent, Outcome};
 use std::collections::{BTreeMap, BTreeSet};
+use taken_back::TakenBack;
 use w::book_w;
 
 fn case_w(budget: u32, lent: Lent, seed: u32) -> Case {
@@ -79,8 +84,8 @@ fn cases_are_the_same_at_every_call() {
 #[test]
 fn cases_are_many_and_small() {
     let cases = all();
-    assert!(cases.len() >= 7_000, "{} cases", cases.len());
-    assert!(stream(&cases).len() <= 3_500_000);
+    assert!(cases.len() >= 7_500, "{} cases", cases.len());
+    assert!(stream(&cases).len() <= 4_000_000);
     for Case { file, lent, .. } in cases {
         assert!(file.len() <= 60_016);
         assert!(lent.amounts <= 520 && lent.presence <= 16);
@@ -111,12 +116,14 @@ struct Met {
     used_up: BTreeMap<u32, usize>,
     cost: u32,
     reasons: Reasons,
+    taken_back: TakenBack,
 }
 
 impl Met {
     fn count(&mut self, case: &Case) {
         let outcome = Outcome::of(case);
         self.reasons.count(case, &outcome);
+        self.taken_back.count(case);
         match outcome.answer {
             Answer::Refused(Refusal { number, index }) => {
                 *self.answers.entry(number).or_default() += 1;
@@ -177,6 +184,7 @@ fn the_cases_meet_enough() {
     demand_books(&met);
     demand_lengths(&met);
     met.reasons.demand();
+    met.taken_back.demand();
 }
 
 fn demand_answers(met: &Met) {

@@ -138,11 +138,15 @@ impl Machine<'_> {
         if !key.within_set(&self.cells.labels[write.place()]) {
             return Err(node.stop(26));
         }
+        if frame.fires_from == 0 {
+            return self.post_own(&write);
+        }
+        self.kept.keep::<L>(&self.cells, write.place());
         self.store(&write);
         self.fire(frame.fires_from, &write)
     }
 
-    fn store<L: Label>(&mut self, write: &Write<L>) {
+    pub fn store<L: Label>(&mut self, write: &Write<L>) {
         let place = write.place();
         let (word, bit) = (&mut self.cells.presence[write.table], 1 << write.bit());
         match write.amount {

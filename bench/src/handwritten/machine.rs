@@ -1,6 +1,7 @@
 //! A run: what it holds, its budget, its trace and its programs.
 
 use super::book::Book;
+use super::kept::Kept;
 use super::nodes::{Node, Nodes, Stop};
 use super::regions::Region;
 use super::rights::Rights;
@@ -15,6 +16,7 @@ pub struct Machine<'a> {
     regions: &'a [[u8; 8]],
     pub triggers: [Trigger; 8],
     pub cells: Cells<'a>,
+    pub kept: Kept<'a>,
     pub rights: Rights,
     budget: u32,
     left: u32,
@@ -48,6 +50,7 @@ impl<'a> Machine<'a> {
         book: &Book<'a>,
         nodes: &'a Nodes,
         cells: Cells<'a>,
+        kept: Kept<'a>,
         budget: u32,
         trace: &'a mut [u8],
     ) -> Machine<'a> {
@@ -56,6 +59,7 @@ impl<'a> Machine<'a> {
             regions: book.regions,
             triggers: triggers::of(book),
             cells,
+            kept,
             rights: Rights::of(book),
             budget,
             left: budget,

@@ -11,6 +11,7 @@
 mod book;
 mod commands;
 mod expressions;
+mod kept;
 mod kinds;
 mod machine;
 mod nodes;
@@ -26,7 +27,9 @@ pub use sets::{Set, Unlabelled};
 
 use crate::proved::{Answered, Ran};
 use book::{Book, Refusal};
+use kept::Kept;
 use machine::Machine;
+use nodes::Nodes;
 use sets::Label;
 use start::Cells;
 
@@ -53,7 +56,12 @@ pub fn run<L: Label>(
     match started {
         Ok((book, cells)) => {
             let nodes = nodes::decode(&book);
-            Machine::new(&book, &nodes, cells, budget, trace).programs::<L>(&book)
+            if book.triggers.is_empty() {
+                let kept = Kept::new(None);
+                return Machine::new(&book, &nodes, cells, kept, budget, trace)
+                    .programs::<L>(&book);
+            }
+            run_with_triggers::<L>(&book, &nodes, cells, budget, trace)
         }
         Err(Refusal { number, at }) => Ran {
             number,
@@ -62,6 +70,20 @@ pub fn run<L: Label>(
             bytes: 0,
         },
     }
+}
+
+/// Out of line, so that only books with triggers pay for the room.
+#[inline(never)]
+fn run_with_triggers<L: Label>(
+    book: &Book,
+    nodes: &Nodes,
+    cells: Cells,
+    budget: u32,
+    trace: &mut [u8],
+) -> Ran {
+    let mut room = [kept::Cell::NONE; 512];
+    let kept = Kept::new(Some(&mut room));
+    Machine::new(book, nodes, cells, kept, budget, trace).programs::<L>(book)
 }
 
 /// Sets lent memory to the start state of the book in a file.

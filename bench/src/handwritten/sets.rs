@@ -25,6 +25,9 @@ pub trait Label: Copy {
     fn within_set(&self, set: &Set) -> bool;
 
     fn store(&self, label: &mut Set);
+
+    /// Copies a cell's label, if cells have any.
+    fn copy(from: &Set, to: &mut Set);
 }
 
 impl Label for Set {
@@ -76,6 +79,11 @@ impl Label for Set {
     fn store(&self, label: &mut Set) {
         *label = *self;
     }
+
+    #[inline(always)]
+    fn copy(from: &Set, to: &mut Set) {
+        *to = *from;
+    }
 }
 
 /// The label of a run with no labels. It takes no space and passes every test,
@@ -103,4 +111,6 @@ impl Label for Unlabelled {
     }
 
     fn store(&self, _: &mut Set) {}
+
+    fn copy(_: &Set, _: &mut Set) {}
 }

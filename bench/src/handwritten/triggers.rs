@@ -62,6 +62,22 @@ impl Trigger {
 }
 
 impl Machine<'_> {
+    /// A program's own write, which is taken back if a trigger stops.
+    pub fn post_own<L: Label>(&mut self, write: &Write<L>) -> Result<(), Stop> {
+        let Some(first) = (0..8).find(|&number| self.triggers[number].fits(write)) else {
+            self.store(write);
+            return Ok(());
+        };
+        self.kept.begin(&self.cells);
+        self.kept.keep::<L>(&self.cells, write.place());
+        self.store(write);
+        let fired = self.fire(first, write);
+        if fired.is_err() {
+            self.kept.take_back::<L>(&mut self.cells);
+        }
+        fired
+    }
+
     /// Runs the triggers that a write fires, of those from number `from` on.
     pub fn fire<L: Label>(&mut self, from: usize, write: &Write<L>) -> Result<(), Stop> {
         for number in from..8 {

@@ -1,6 +1,7 @@
 //! The workloads. Each is one call on a book that is built here.
 
 mod arithmetic;
+mod cascades;
 mod full;
 mod postings;
 mod queries;
@@ -19,11 +20,13 @@ pub struct Workload {
     pub answer: Answer,
 }
 
-pub fn all() -> [Workload; 6] {
+pub fn all() -> [Workload; 8] {
     [
         run("arithmetic", arithmetic::book(), arithmetic::COST),
         run("queries", queries::book(), queries::COST),
         run("postings", postings::book(), postings::COST),
+        cascades("cascades", cascades::TURNS),
+        cascades("cascades-double", 2 * cascades::TURNS),
         run("smallest", smallest(), 2),
         Workload {
             name: "reading",
@@ -48,6 +51,11 @@ fn run(name: &'static str, book: Book, cost: u32) -> Workload {
         call: Call::Run { budget: BUDGET },
         answer: [0, 0, cost, 8],
     }
+}
+
+/// Cascades of writes, so many of them.
+fn cascades(name: &'static str, turns: u32) -> Workload {
+    run(name, cascades::book(turns), cascades::cost(turns))
 }
 
 /// What every run costs: one out of a constant.

@@ -14,9 +14,9 @@ use Rattle.book.specs.Records.{Book, NodeRecord}
 use Rattle.book.specs.Kinds.{between}
 use Rattle.book.specs.Refusals.{node-at, no-program, is-zero}
 use Rattle.monitor.specs.Labelled.{Label, Lab, lift2}
-use Rattle.monitor.specs.Run.{Cell, Rights, State, Rec, Halt, Out, done, stop, M, after, next, _>>=_, ret, look, each, when, Test, guard, need, pay, set-var, set-cell, tell, restore, own, with-vars}
+use Rattle.monitor.specs.Run.{Cell, Rights, State, Rec, Halt, Out, done, stop, M, after, next, _>>=_, ret, look, each, when, Test, guard, need, pay, set-var, set-cell, tell, restore, own, with-vars, taken-back, undoing}
 use Rattle.monitor.specs.Syntax.{Exp, const, var, add, minus, equal, less, query, Cmd, skip, assign, seq, branch, while, put, clear, out, grant, revoke, raise, exp-of, cmd-of}
-use Rattle.monitor.specs.Rules.{Key, ranged, expr, Env, choose, posting, trigger-run, fire, write-cell, command, eval, exec, program, run}
+use Rattle.monitor.specs.Rules.{Key, ranged, expr, Mode, Env, choose, posting, trigger-run, fire, write-cell, command, eval, exec, program, run}
 use Rattle.capi.proofs.Fields.{Fields, Named}
 
 -- a run from a state whose trace has room for this many records
@@ -109,6 +109,16 @@ keeps-own : (v : ℕ → Lab ℤ) {m : M (Unit {0})} → Keeps m → Keeps (own 
 unfolding own
 keeps-own v h = λ s. within-restore (s .vars) (h (with-vars v s))
 
+within-taken : {room : ℕ} (c : ℕ → Lab Cell) {o : Out (Unit {0})} → Within room o → Within room (taken-back c o)
+unfolding taken-back
+within-taken c (ends h) = ends h
+within-taken c (halts h n) = halts h n
+
+keeps-undoing : (x : Bool) {m : M (Unit {0})} → Keeps m → Keeps (undoing x m)
+unfolding undoing
+keeps-undoing true h = λ s. within-taken (s .cells) (h s)
+keeps-undoing false h = h
+
 -- ---- expressions
 
 -- the children are numbers of nodes
@@ -197,36 +207,36 @@ module _ (b : Book) (named : Named b) where
   keeps-eval zero i l = λ s. stands l
   keeps-eval (suc fuel) i l = keeps-bind (keeps-pay _ i l) λ _. keeps-expr (eval b fuel) (keeps-eval fuel) i l (low-exp (node-at b i) (named .nodes i))
 
-  module _ (labels : Bool) (rec : Env → ℕ → M (Unit {0})) (r : (e : Env) (i : ℕ) → i < 1024 → Keeps (rec e i)) where
-    keeps-write : (e : Env) (i event p : ℕ) (k : Lab Key) (z : Lab Cell) → i < 1024 → Keeps (write-cell b labels rec e i event p k z)
+  module _ (mode : Mode) (rec : Env → ℕ → M (Unit {0})) (r : (e : Env) (i : ℕ) → i < 1024 → Keeps (rec e i)) where
+    keeps-write : (e : Env) (i event p : ℕ) (k : Lab Key) (z : Lab Cell) → i < 1024 → Keeps (write-cell b (mode .labels) rec e i event p k z)
     unfolding write-cell posting fire trigger-run
     keeps-write e i event p k z l =
         keeps-bind
-        (keeps-bind (keeps-need _ 23 i l) λ _. keeps-bind (keeps-look _) λ _. keeps-bind (keeps-need _ 24 i l) λ _. keeps-set-cell labels i _ _ _ l) λ _.
+        (keeps-bind (keeps-need _ 23 i l) λ _. keeps-bind (keeps-look _) λ _. keeps-bind (keeps-need _ 24 i l) λ _. keeps-set-cell (mode .labels) i _ _ _ l) λ _.
         keeps-each _ 0 _ λ n _. keeps-when _ (keeps-own _ (r _ _ (named .triggers _)))
 
     module _ (ev : ℕ → M (Lab ℤ)) (k : (a : ℕ) → a < 1024 → Keeps (ev a)) where
-      keeps-command : (e : Env) (i : ℕ) → i < 1024 → {x : Cmd} → LowCmd x → Keeps (command b labels ev rec e i x)
+      keeps-command : (e : Env) (i : ℕ) → i < 1024 → {x : Cmd} → LowCmd x → Keeps (command b mode ev rec e i x)
       unfolding command
       keeps-command e i l low-skip = keeps-ret tt
-      keeps-command e i l (low-assign m) = keeps-bind (k _ m) λ _. keeps-set-var labels i _ _ _ l
+      keeps-command e i l (low-assign m) = keeps-bind (k _ m) λ _. keeps-set-var (mode .labels) i _ _ _ l
       keeps-command e i l (low-seq m n) = keeps-bind (r e _ m) λ _. r e _ n
       keeps-command e i l (low-branch m n o) = keeps-bind (k _ m) λ x. keeps-choose (x .val) (r _ _ n) (r _ _ o)
       keeps-command e i l (low-while m n) = keeps-bind (k _ m) λ x. keeps-choose (x .val) (keeps-bind (r _ _ n) λ _. r _ i l) (keeps-ret tt)
       keeps-command e i l (low-put m n o) =
-          keeps-bind (k _ m) λ _. keeps-bind (k _ n) λ _. keeps-bind (k _ o) λ _. keeps-write e i 1 _ _ _ l
-      keeps-command e i l (low-clear m n) = keeps-bind (k _ m) λ _. keeps-bind (k _ n) λ _. keeps-write e i 2 _ _ _ l
+          keeps-undoing _ (keeps-bind (k _ m) λ _. keeps-bind (k _ n) λ _. keeps-bind (k _ o) λ _. keeps-write e i 1 _ _ _ l)
+      keeps-command e i l (low-clear m n) = keeps-undoing _ (keeps-bind (k _ m) λ _. keeps-bind (k _ n) λ _. keeps-write e i 2 _ _ _ l)
       keeps-command e i l (low-out m) = keeps-bind (k _ m) λ _. keeps-bind (keeps-look _) λ _. keeps-bind (keeps-need _ 27 i l) λ _. keeps-tell i _ _ l
       keeps-command e i l low-grant = keeps-bind (keeps-need _ 28 i l) λ _. keeps-bind (keeps-need _ 29 i l) λ _. keeps-tell i _ _ l
       keeps-command e i l low-revoke = keeps-bind (keeps-need _ 28 i l) λ _. keeps-bind (keeps-need _ 29 i l) λ _. keeps-tell i _ _ l
-      keeps-command e i l low-raise = keeps-set-var labels i _ _ _ l
+      keeps-command e i l low-raise = keeps-set-var (mode .labels) i _ _ _ l
 
-  keeps-exec : (labels : Bool) (fuel : ℕ) (e : Env) (i : ℕ) → i < 1024 → Keeps (exec b labels fuel e i)
+  keeps-exec : (mode : Mode) (fuel : ℕ) (e : Env) (i : ℕ) → i < 1024 → Keeps (exec b mode fuel e i)
   unfolding exec
-  keeps-exec labels zero e i l = λ s. stands l
-  keeps-exec labels (suc fuel) e i l = keeps-bind (keeps-pay _ i l) λ _.
-      keeps-command labels (exec b labels fuel) (keeps-exec labels fuel) (eval b fuel) (keeps-eval fuel) e i l (low-cmd (node-at b i) (named .nodes i))
+  keeps-exec mode zero e i l = λ s. stands l
+  keeps-exec mode (suc fuel) e i l = keeps-bind (keeps-pay _ i l) λ _.
+      keeps-command mode (exec b mode fuel) (keeps-exec mode fuel) (eval b fuel) (keeps-eval fuel) e i l (low-cmd (node-at b i) (named .nodes i))
 
-  pub keeps-run : (labels : Bool) (fuel : ℕ) → Keeps (run b labels fuel)
+  pub keeps-run : (mode : Mode) (fuel : ℕ) → Keeps (run b mode fuel)
   unfolding run program
-  keeps-run labels fuel = keeps-each (b .programs) no-program _ λ i l. keeps-own _ (keeps-exec labels fuel _ _ (named .programs i l))
+  keeps-run mode fuel = keeps-each (b .programs) no-program _ λ i l. keeps-own _ (keeps-exec mode fuel _ _ (named .programs i l))

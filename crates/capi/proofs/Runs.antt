@@ -14,6 +14,7 @@ use Rattle.book.specs.declared.Verdict.{Verdict}
 use Rattle.book.proofs.Chains.{both}
 use Rattle.book.proofs.Verdicts.{accepts-both, need-accepts}
 use Rattle.monitor.specs.Run.{Out}
+use Rattle.monitor.specs.Rules.{monitored}
 use Rattle.monitor.specs.Call.{Memory, Result, values, script, start-state, run-book, call-verdict, result-of, answered, call}
 use Rattle.monitor.specs.Explain.{ExplainResult}
 use Rattle.monitor.specs.Explain as tool
@@ -51,7 +52,7 @@ module _ (file : List ℕ) (budget : ℕ) (m : Memory) where
       let labels = both (eqb (length (m .labels)) 4096) _ (presence .1) in
       let trace = both (leb (length (m .trace)) 65536) _ (labels .1) in
       small-result budget m (leb-true _ _ (trace .0))
-      (keeps-run (script (decode file)) (fields.named file (passed .1)) true budget (start-state (decode file) budget (length (m .trace) / 8)))
+      (keeps-run (script (decode file)) (fields.named file (passed .1)) monitored budget (start-state (decode file) budget (length (m .trace) / 8)))
 
   call-small : Small (values (call true file budget m .answer))
   unfolding call call-verdict

@@ -11,7 +11,7 @@ use Rattle.book.specs.declared.Verdict.{Verdict}
 use Rattle.book.specs.declared.Verdict.the-variants as verdicts
 use Rattle.monitor.specs.Labelled.{Lab, lit}
 use Rattle.monitor.specs.Run.{Cell, Out, sixteen}
-use Rattle.monitor.specs.Rules.{run}
+use Rattle.monitor.specs.Rules.{monitored, run}
 use Rattle.monitor.specs.Call.{Memory, Result, script, start-cells, start-rights, start-state, run-book, call-verdict, result-of, answered, call}
 use Rattle.monitor.specs.declared.Answer.the-variants.{Refused}
 use Rattle.claims.specs.TwoBooks.{accepted, finished, visible, visible-in, group-trace, members-read, granted-to, reach, cells-in}
@@ -25,7 +25,7 @@ use Rattle.claims.proofs.Demand3.{accepted-is, left-cells}
 run-from : (Book → ℕ → Lab Cell) → List ℕ → ℕ → Memory → Out (Unit {0})
 run-from cells file budget m =
     let b : Book = decode file in
-    run (script b) true budget
+    run (script b) monitored budget
     (record { cells = cells b; vars = sixteen (lit (pos 0)); rights = start-rights b; left = budget; room = length (m .trace) / 8 })
 
 answered-from : (Book → ℕ → Lab Cell) → List ℕ → ℕ → Memory → Verdict → Result

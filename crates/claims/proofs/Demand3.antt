@@ -13,7 +13,7 @@ use Rattle.book.specs.declared.Verdict.{Verdict}
 use Rattle.book.specs.declared.Verdict.the-variants.{Accepted, Refused}
 use Rattle.monitor.specs.Labelled.{Label}
 use Rattle.monitor.specs.Run.{Out, done, stop}
-use Rattle.monitor.specs.Rules.{run}
+use Rattle.monitor.specs.Rules.{monitored, run}
 use Rattle.monitor.specs.Call.{Memory, record-bytes, script, start-cells, start-rights, start-state, run-book, call-verdict, memory-after, result-of, answered, call}
 use Rattle.claims.specs.TwoBooks.{Group, accepted, finished, Begins, reach, InsideEither, SameInside, DifferOutside, cells-in}
 use Rattle.claims.specs.Claims.{LearnsNothing, Demand3}
@@ -58,7 +58,7 @@ left-cells budget m (stop t e s) h q l = cells-kept (s .cells) h q l
 
 -- what two runs show a group, two calls show it
 learns : (g : Group) (R : Label) (budget budget' : ℕ) (m m' : Memory) {b b' : Book} {o o' : Out (Unit {0})}
-    → Fine b Any o → Fine b' Any o' → Agree g R o o' → LearnsNothing g R (result-of budget m o) (result-of budget' m' o')
+    → Fine b monitored Any o → Fine b' monitored Any o' → Agree g R o o' → LearnsNothing g R (result-of budget m o) (result-of budget' m' o')
 learns g R budget budget' m m' {o} {o'} f f' a =
     let first = call-seen g budget m o (fine-records f) in
     let second = call-seen g budget' m' o' (fine-records f') in
@@ -109,7 +109,7 @@ runs-agree g file file' budget budget' m m' d =
     let o = ran file budget m in
     let s = start-state b budget (length (m .trace) / 8) in
     let s' = start-state b' budget' (length (m' .trace) / 8) in
-    subst (λ c. Agree g (reach g file (result-of budget m o)) o (run c true budget' s')) (one-script (d .scripts))
+    subst (λ c. Agree g (reach g file (result-of budget m o)) o (run c monitored budget' s')) (one-script (d .scripts))
     (two-runs (script b) g (reach g file (result-of budget m o)) s s' budget budget'
     (sym (script-start b) ∙ ap start-rights (one-script (d .scripts)) ∙ script-start b')
     refl

@@ -14,11 +14,11 @@ use Rattle.book.specs.Start.{public-set}
 use Rattle.monitor.specs.Labelled.{Label, bottom, Lab, lift2, under}
 use Rattle.monitor.specs.Run.{Cell, held, Rights, State, changed, M, _>>=_, _>>_, ret, update}
 use Rattle.monitor.specs.Syntax.{Exp, const, var, add, minus, less, query, Cmd, skip, assign, seq, branch, while, put, clear, out, grant, revoke, raise}
-use Rattle.monitor.specs.Rules.{Key, key, from-to, Box, box-of, in-box, gather, seen, aggregate, ranged, expr, Env, within-label, choose, posting, trigger-vars, region-places, granted, revoked, trigger-run, fire, write-cell, command, eval, exec, program, run}
+use Rattle.monitor.specs.Rules.{Key, key, from-to, Box, box-of, in-box, gather, seen, aggregate, ranged, expr, monitored, Env, within-label, choose, posting, trigger-vars, region-places, granted, revoked, trigger-run, fire, write-cell, command, eval, exec, program, run}
 use Rattle.claims.specs.TwoBooks.{Group}
 use Rattle.claims.proofs.Views.{seen-of, gift}
 use Rattle.claims.proofs.Low.{View, Hidden, hidden-left, hidden-right, Same, equal, same-inside, same-lift, same-lift2, same-via, same-under, same-raised, same-update, Safe, Alike}
-use Rattle.claims.proofs.Steps.{Still, Pair, Any, Both, stops, first-stops, second-stops, begun-nil, still-bind, pair-bind, pair-by, still-ret, pair-ret, still-look, pair-look, still-when, pair-when, still-each, pair-each, still-need, pair-need, still-pay, pair-pay, still-set-var, pair-set-var, still-set-cell, pair-set-cell, still-said, pair-said, pair-changed, still-own, pair-own}
+use Rattle.claims.proofs.Steps.{Still, Pair, Any, Both, stops, first-stops, second-stops, begun-nil, still-bind, pair-bind, pair-by, still-ret, pair-ret, still-look, pair-look, still-when, pair-when, still-each, pair-each, still-need, pair-need, still-pay, pair-pay, still-set-var, pair-set-var, still-set-cell, pair-set-cell, still-said, pair-said, pair-changed, still-own, pair-own, still-undoing, pair-undoing}
 
 -- ---- expressions
 
@@ -230,7 +230,7 @@ module _ (b : Book) (g : Group) (R : Label) where
     readable r p h k m = within-trans k (union-least public (h .safe p m))
 
     module _ (ev : ℕ → M (Lab ℤ)) (k : (a : ℕ) → Still view Any (ev a)) (rec : Env → ℕ → M (Unit {0})) (h : StillIn view rec) where
-      still-command : (e : Env) (i : ℕ) → Hidden R (e .ctx) → (x : Cmd) → Still view Any (command b true ev rec e i x)
+      still-command : (e : Env) (i : ℕ) → Hidden R (e .ctx) → (x : Cmd) → Still view Any (command b monitored ev rec e i x)
       unfolding command under
       still-command e i l skip = still-ret tt
       still-command e i l (assign p a) = still-bind (k a) λ x _. still-set-var i p _ l (λ _ _. hidden-left (x .lab) l)
@@ -238,8 +238,9 @@ module _ (b : Book) (g : Group) (R : Label) where
       still-command e i l (branch a c d) = still-bind (k a) λ x _. still-branch rec h e x c d (hidden-left (x .lab) l)
       still-command e i l (while a c) = still-bind (k a) λ x _. still-while rec h e i x c (hidden-left (x .lab) l)
       still-command e i l (put p a c d) =
-          still-bind (k a) λ _ _. still-bind (k c) λ _ _. still-bind (k d) λ _ _. still-write rec h b e i 1 p _ _ (hidden-left _ l)
-      still-command e i l (clear p a c) = still-bind (k a) λ _ _. still-bind (k c) λ _ _. still-write rec h b e i 2 p _ _ (hidden-left _ l)
+          still-undoing _ (still-bind (k a) λ _ _. still-bind (k c) λ _ _. still-bind (k d) λ _ _. still-write rec h b e i 1 p _ _ (hidden-left _ l))
+      still-command e i l (clear p a c) =
+          still-undoing _ (still-bind (k a) λ _ _. still-bind (k c) λ _ _. still-write rec h b e i 2 p _ _ (hidden-left _ l))
       still-command e i l (out p a) =
           still-bind (k a) λ x _. still-bind (still-look _ (λ s r. r .safe)) λ r f. still-bind (still-need _ 27 i) λ _ t.
           still-said i p (x .val) (λ m. hidden-left (x .lab) l (readable r p f (record { holds = t }) m))
@@ -249,15 +250,15 @@ module _ (b : Book) (g : Group) (R : Label) where
           still-bind (still-need _ 28 i) λ _ _. still-bind (still-need _ 29 i) λ _ t. absurd (l (within-trans (record { holds = t }) public))
       still-command e i l (raise p a) = still-set-var i p _ l (λ _ m. hidden-left (region-places b a) m)
 
-    still-exec : (fuel : ℕ) → StillIn view (exec b true fuel)
+    still-exec : (fuel : ℕ) → StillIn view (exec b monitored fuel)
     unfolding exec seen-of
     still-exec zero e i l = λ s r. stops refl
     still-exec (suc fuel) e i l = still-bind (still-pay _ i) λ _ _.
-        still-command (eval b fuel) (still-eval b fuel) (exec b true fuel) (still-exec fuel) e i l _
+        still-command (eval b fuel) (still-eval b fuel) (exec b monitored fuel) (still-exec fuel) e i l _
 
     module _ (ev ev' : ℕ → M (Lab ℤ)) (k : (a : ℕ) → Pair view (Same R) (ev a) (ev' a))
         (rec rec' : Env → ℕ → M (Unit {0})) (h : PairIn view rec rec') where
-      pair-command : (e : Env) (i : ℕ) (x : Cmd) → Pair view Both (command b true ev rec e i x) (command b true ev' rec' e i x)
+      pair-command : (e : Env) (i : ℕ) (x : Cmd) → Pair view Both (command b monitored ev rec e i x) (command b monitored ev' rec' e i x)
       unfolding command
       pair-command e i skip = pair-ret tt
       pair-command e i (assign p a) = pair-bind (k a) λ _ _ q. pair-set-var i (e .ctx) p _ _ (λ _ _ _. same-under (e .ctx) q)
@@ -269,8 +270,10 @@ module _ (b : Book) (g : Group) (R : Label) where
           pair-by _ _ q (λ z. pair-choose (z .val) (pair-bind (h .beside _ c) λ _ _ _. h .beside _ i) (pair-ret tt))
           (λ z l. (still-while rec (h .first) e i z c (hidden-right _ l), still-while rec' (h .second) e i z c (hidden-right _ l)))
       pair-command e i (put p a c d) =
-          pair-bind (k a) λ _ _ x. pair-bind (k c) λ _ _ y. pair-bind (k d) λ _ _ z. pair-keys rec rec' h b e i 1 p (same-key x y) (same-lift held z)
-      pair-command e i (clear p a c) = pair-bind (k a) λ _ _ x. pair-bind (k c) λ _ _ y. pair-keys rec rec' h b e i 2 p (same-key x y) (equal refl)
+          pair-undoing _ (pair-bind (k a) λ _ _ x. pair-bind (k c) λ _ _ y. pair-bind (k d) λ _ _ z.
+          pair-keys rec rec' h b e i 1 p (same-key x y) (same-lift held z))
+      pair-command e i (clear p a c) =
+          pair-undoing _ (pair-bind (k a) λ _ _ x. pair-bind (k c) λ _ _ y. pair-keys rec rec' h b e i 2 p (same-key x y) (equal refl))
       pair-command e i (out p a) =
           pair-bind (k a) λ x x' q.
           pair-bind {Q = λ r _. Safe view r} (pair-look _ _ (λ s t r. r .safe)) λ r _ f.
@@ -283,14 +286,14 @@ module _ (b : Book) (g : Group) (R : Label) where
           pair-bind (pair-need _ _ 28 i) λ _ _ _. pair-bind (pair-need _ _ 29 i) λ _ _ _. pair-changed i _ _ (λ w f _. safe-revoked p a kind w f)
       pair-command e i (raise p a) = pair-set-var i (e .ctx) p _ _ (λ _ _ q. same-raised (region-places b a) q)
 
-    pair-exec : (fuel fuel' : ℕ) (e : Env) (i : ℕ) → Pair view Both (exec b true fuel e i) (exec b true fuel' e i)
+    pair-exec : (fuel fuel' : ℕ) (e : Env) (i : ℕ) → Pair view Both (exec b monitored fuel e i) (exec b monitored fuel' e i)
     unfolding exec seen-of
     pair-exec zero fuel' e i = λ s t r. first-stops (begun-nil _ refl)
     pair-exec (suc fuel) zero e i = λ s t r. second-stops (begun-nil _ refl)
     pair-exec (suc fuel) (suc fuel') e i = pair-bind (pair-pay _ i) λ _ _ _.
-        pair-command (eval b fuel) (eval b fuel') (pair-eval b fuel fuel') (exec b true fuel) (exec b true fuel')
+        pair-command (eval b fuel) (eval b fuel') (pair-eval b fuel fuel') (exec b monitored fuel) (exec b monitored fuel')
         (record { beside = pair-exec fuel fuel'; first = still-exec fuel; second = still-exec fuel' }) e i _
 
-    pub pair-run : (fuel fuel' : ℕ) → Pair view Both (run b true fuel) (run b true fuel')
+    pub pair-run : (fuel fuel' : ℕ) → Pair view Both (run b monitored fuel) (run b monitored fuel')
     unfolding run program
     pair-run fuel fuel' = pair-each (b .programs) λ p. pair-own (λ n. equal refl) (pair-exec fuel fuel' _ _)

@@ -1,7 +1,7 @@
 -- Fuel: the number on which the rules recurse need only be what is left of the budget; more of it changes nothing. Assumes nothing.
 use mathlib.Core.Path.{_≡_, refl, sym, ap, _∙_, subst}
 use mathlib.Core.List.{List, []}
-use mathlib.Core.Bool.{Bool, true}
+use mathlib.Core.Bool.{Bool, true, false, _&&_}
 use Prim.Native.Nat.{ℕ, zero, suc, _≤_}
 use native.Mathlib.Nat.{le-refl}
 use native.Mathlib.Omega.{arith}
@@ -11,8 +11,8 @@ use Rattle.book.specs.Records.{Book}
 use Rattle.book.specs.Refusals.{node-at}
 use Rattle.book.proofs.Costs as kinds
 use Rattle.monitor.specs.Labelled.{Lab}
-use Rattle.monitor.specs.Run.{State, Rec, no-sets, Halt, Out, done, stop, M, after, next, _>>=_, _>>_, Test, guard, with-vars, pay, restore, own}
-use Rattle.monitor.specs.Rules.{Env, cost-at, eval, exec, program, run}
+use Rattle.monitor.specs.Run.{Cell, State, Rec, no-sets, Halt, Out, done, stop, M, after, next, _>>=_, _>>_, Test, guard, with-vars, pay, restore, own, taken-back, undoing}
+use Rattle.monitor.specs.Rules.{Mode, monitored, Env, cost-at, eval, exec, program, run}
 use Rattle.claims.specs.Claims.{FuelEnough}
 use Rattle.claims.proofs.Guards.{Guarded, passed, failed, guarded}
 use Rattle.claims.proofs.Kept.{Relation, Kept, eaches, expressions, commands}
@@ -64,14 +64,25 @@ spend-own v h = λ s l.
     let x = h (with-vars v s) l in
     record { same = ap (restore (s .vars)) (x .same); left = left-restore (s .vars) (x .left) }
 
-kept : (labels : Bool) (n : ℕ) → Kept labels labels (Spend n n)
-kept labels n = record {
+left-taken-back : {n : ℕ} (c : ℕ → Lab Cell) {o : Out (Unit {0})} → Left n o → Left n (taken-back c o)
+unfolding taken-back
+left-taken-back c (at-most h) = at-most h
+left-taken-back c stopped = stopped
+
+spend-undoing : {n : ℕ} (x : Bool) {m m' : M (Unit {0})} → Spend n n (Unit {0}) m m' → Spend n n (Unit {0}) (undoing x m) (undoing x m')
+unfolding undoing
+spend-undoing true h = λ s l. record { same = ap (taken-back (s .cells)) (h s l .same); left = left-taken-back (s .cells) (h s l .left) }
+spend-undoing false h = h
+
+kept : (mode : Mode) (n : ℕ) → Kept mode mode (Spend n n)
+kept mode n = record {
   looks = λ f s l. record { same = refl; left = at-most l };
   binds = spend-bind;
   tests = λ x number i h s l. record { same = refl; left = left-guarded (λ e. h s l .left) (guarded _ number i _ s) };
   label-tests = λ c bound number i h s l. record { same = refl; left = left-guarded (λ e. h s l .left) (guarded _ number i _ s) };
   commits = λ t f e s l. record { same = refl; left = at-most {s = f s} (rw (e s) l) };
   owns = spend-own;
+  undoings = λ x h. spend-undoing (mode .undoes && x) h;
 }
 
 -- ---- entering a node
@@ -104,11 +115,11 @@ unfolding eval
 eval-nothing-left b zero i s h = refl
 eval-nothing-left b (suc fuel) i s h = enter-nothing-left b i _ s h
 
-pub exec-nothing-left : (b : Book) (labels : Bool) (fuel : ℕ) (e : Env) (i : ℕ) (s : State)
-    → s .left ≡ 0 → exec b labels fuel e i s ≡ out-of-budget i s
+pub exec-nothing-left : (b : Book) (mode : Mode) (fuel : ℕ) (e : Env) (i : ℕ) (s : State)
+    → s .left ≡ 0 → exec b mode fuel e i s ≡ out-of-budget i s
 unfolding exec
-exec-nothing-left b labels zero e i s h = refl
-exec-nothing-left b labels (suc fuel) e i s h = enter-nothing-left b i _ s h
+exec-nothing-left b mode zero e i s h = refl
+exec-nothing-left b mode (suc fuel) e i s h = enter-nothing-left b i _ s h
 
 -- ---- any two fuels that are at least what is left
 
@@ -134,20 +145,20 @@ spend-eval b zero fuel fuel' i h h' = spend-nothing i (eval-nothing-left b fuel 
 spend-eval b (suc n) zero fuel' i h h' = absurd (omega arith)
 spend-eval b (suc n) (suc fuel) zero i h h' = absurd (omega arith)
 spend-eval b (suc n) (suc fuel) (suc fuel') i h h' =
-    spend-enter b i (expressions (kept true n) (eval b fuel) (eval b fuel') (λ a. spend-eval b n fuel fuel' a (omega arith) (omega arith)) i _)
+    spend-enter b i (expressions (kept monitored n) (eval b fuel) (eval b fuel') (λ a. spend-eval b n fuel fuel' a (omega arith) (omega arith)) i _)
 
-spend-exec : (b : Book) (labels : Bool) (n fuel fuel' : ℕ) (e : Env) (i : ℕ)
-    → n ≤ fuel → n ≤ fuel' → Spend n n (Unit {0}) (exec b labels fuel e i) (exec b labels fuel' e i)
+spend-exec : (b : Book) (mode : Mode) (n fuel fuel' : ℕ) (e : Env) (i : ℕ)
+    → n ≤ fuel → n ≤ fuel' → Spend n n (Unit {0}) (exec b mode fuel e i) (exec b mode fuel' e i)
 unfolding exec
-spend-exec b labels zero fuel fuel' e i h h' = spend-nothing i (exec-nothing-left b labels fuel e i) (exec-nothing-left b labels fuel' e i)
-spend-exec b labels (suc n) zero fuel' e i h h' = absurd (omega arith)
-spend-exec b labels (suc n) (suc fuel) zero e i h h' = absurd (omega arith)
-spend-exec b labels (suc n) (suc fuel) (suc fuel') e i h h' =
-    spend-enter b i (commands (kept labels n)
+spend-exec b mode zero fuel fuel' e i h h' = spend-nothing i (exec-nothing-left b mode fuel e i) (exec-nothing-left b mode fuel' e i)
+spend-exec b mode (suc n) zero fuel' e i h h' = absurd (omega arith)
+spend-exec b mode (suc n) (suc fuel) zero e i h h' = absurd (omega arith)
+spend-exec b mode (suc n) (suc fuel) (suc fuel') e i h h' =
+    spend-enter b i (commands (kept mode n)
     (eval b fuel) (eval b fuel') (λ a. spend-eval b n fuel fuel' a (omega arith) (omega arith)) b
-    (exec b labels fuel) (exec b labels fuel') (λ e i. spend-exec b labels n fuel fuel' e i (omega arith) (omega arith)) e i _)
+    (exec b mode fuel) (exec b mode fuel') (λ e i. spend-exec b mode n fuel fuel' e i (omega arith) (omega arith)) e i _)
 
 pub fuel-enough : FuelEnough
 unfolding run program
-fuel-enough b labels fuel fuel' s h h' =
-    eaches (kept labels (s .left)) (b .programs) (λ p. spend-own _ (spend-exec b labels (s .left) fuel fuel' _ _ h h')) s (le-refl _) .same
+fuel-enough b mode fuel fuel' s h h' =
+    eaches (kept mode (s .left)) (b .programs) (λ p. spend-own _ (spend-exec b mode (s .left) fuel fuel' _ _ h h')) s (le-refl _) .same

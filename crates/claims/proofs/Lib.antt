@@ -7,6 +7,7 @@ pub mod TwoRuns
 pub mod Kept
 pub mod Fuel
 pub mod NoLabels
+pub mod Undone
 pub mod Sized
 pub mod Traces
 pub mod Reach

@@ -1,15 +1,15 @@
 -- The run with no labels: where the labelled run finishes, the other is the same. Assumes nothing.
 use mathlib.Core.Path.{_≡_, refl, ap, _∙_}
 use mathlib.Core.List.{List}
-use mathlib.Core.Bool.{true, false, false≢true}
+use mathlib.Core.Bool.{Bool, true, false, false≢true}
 use Prim.Native.Nat.{ℕ, zero, suc}
 use lib.IntN.{ℤ}
 use Rattle.book.specs.Records.{Book}
 use Rattle.book.specs.declared.Verdict.{Verdict}
 use Rattle.book.specs.declared.Verdict.the-variants.{Accepted, Refused}
 use Rattle.monitor.specs.Labelled.{Label, Lab}
-use Rattle.monitor.specs.Run.{State, Rec, Out, done, stop, M, after, next, Test, inside, guard, with-vars, restore, own}
-use Rattle.monitor.specs.Rules.{Env, eval, exec, program, run}
+use Rattle.monitor.specs.Run.{Cell, State, Rec, Out, done, stop, M, after, next, Test, inside, guard, with-vars, restore, own, taken-back, undoing}
+use Rattle.monitor.specs.Rules.{Mode, monitored, Env, eval, exec, program, run}
 use Rattle.monitor.specs.Call.{Memory, run-book, result-of, answered, call, call-verdict}
 use Rattle.claims.specs.TwoBooks.{finished}
 use Rattle.claims.specs.Claims.{NoLabelsSame}
@@ -53,7 +53,21 @@ follows-own : (v : ℕ → Lab ℤ) {m m' : M (Unit {0})} → Follows (Unit {0})
 unfolding own
 follows-own v {m} h = λ s d. ap (restore (s .vars)) (h (with-vars v s) (done-restore (s .vars) (m (with-vars v s)) d))
 
-kept : Kept true false Follows
+done-taken-back : (c : ℕ → Lab Cell) (o : Out (Unit {0})) → is-done (taken-back c o) ≡ true → is-done o ≡ true
+unfolding taken-back is-done
+done-taken-back c (done t a s) e = refl
+done-taken-back c (stop t h s) e = e
+
+follows-undoing : (x : Bool) {m m' : M (Unit {0})} → Follows (Unit {0}) m m' → Follows (Unit {0}) (undoing x m) (undoing x m')
+unfolding undoing
+follows-undoing true {m} h = λ s d. ap (taken-back (s .cells)) (h s (done-taken-back (s .cells) (m s) d))
+follows-undoing false h = h
+
+-- the run with no labels
+abbrev unlabelled : Mode
+unlabelled = record { labels = false; undoes = true }
+
+kept : Kept monitored unlabelled Follows
 kept = record {
   looks = λ f s d. refl;
   binds = λ {A} {B} {m} h g s d. follows-next (m s) (h s) g d;
@@ -61,17 +75,18 @@ kept = record {
   label-tests = λ l bound n i {m} h. follows-test l bound n i m;
   commits = λ t f e s d. refl;
   owns = follows-own;
+  undoings = λ x h. follows-undoing x h;
 }
 
 -- ---- runs
 
-follows-exec : (b : Book) (fuel : ℕ) (e : Env) (i : ℕ) → Follows (Unit {0}) (exec b true fuel e i) (exec b false fuel e i)
+follows-exec : (b : Book) (fuel : ℕ) (e : Env) (i : ℕ) → Follows (Unit {0}) (exec b monitored fuel e i) (exec b unlabelled fuel e i)
 unfolding exec
 follows-exec b zero e i = λ s d. refl
 follows-exec b (suc fuel) e i = kept .binds (λ s d. refl) λ _.
-    commands kept (eval b fuel) (eval b fuel) (λ a s d. refl) b (exec b true fuel) (exec b false fuel) (follows-exec b fuel) e i _
+    commands kept (eval b fuel) (eval b fuel) (λ a s d. refl) b (exec b monitored fuel) (exec b unlabelled fuel) (follows-exec b fuel) e i _
 
-follows-run : (b : Book) (fuel : ℕ) → Follows (Unit {0}) (run b true fuel) (run b false fuel)
+follows-run : (b : Book) (fuel : ℕ) → Follows (Unit {0}) (run b monitored fuel) (run b unlabelled fuel)
 unfolding run program
 follows-run b fuel = eaches kept (b .programs) λ p. follows-own _ (follows-exec b fuel _ _)
 

@@ -1,9 +1,9 @@
 -- What every run keeps, of any book: contexts and the labels of the 512 cells have eight words, no label has more, all words have 64 bits, the
--- records are of the paper's five kinds, and a stop about labels is on a set that is not within its bound. Each combinator of specs/Run.antt
--- once, then the rules. Assumes nothing.
-use mathlib.Core.Path.{_≡_, refl, sym, subst}
+-- records are of the paper's five kinds, and a stop about labels is on a set that is not within its bound, where the state that it left is not
+-- taken back. Each combinator of specs/Run.antt once, then the rules. Assumes nothing.
+use mathlib.Core.Path.{_≡_, refl, sym, _∙_, subst}
 use mathlib.Core.List.{List, [], _∷_, _++_}
-use mathlib.Core.Bool.{Bool, true, false, _||_, not, cond, false≢true}
+use mathlib.Core.Bool.{Bool, true, false, _&&_, _||_, not, cond, true≢false, false≢true}
 use Prim.Native.Nat.{ℕ, zero, suc, _+_, _*_, _≤_, _<_, zero-le}
 use native.Mathlib.Nat.{le-refl}
 use native.Mathlib.Decide.{decLt}
@@ -20,12 +20,14 @@ use Rattle.regions.proofs.Regions.{length-region}
 use Rattle.book.specs.Records.{NodeRecord, Book, region-of}
 use Rattle.book.specs.Kinds.{between}
 use Rattle.book.specs.Refusals.{no-region, is-zero, node-at}
+use Rattle.book.proofs.Chains.{both}
 use Rattle.monitor.specs.Labelled.{Label, bottom, Lab, lit, lift, lift2, via, under}
-use Rattle.monitor.specs.Run.{Cell, Rights, State, Rec, said, changed, Halt, about-labels, Out, done, stop, M, after, next, _>>=_, ret, look, each, when, Test, plainly, inside, guard, need, commit, update, with-vars, pay, set-var, set-cell, tell, sixteen, restore, own}
+use Rattle.monitor.specs.Run.{Cell, Rights, State, Rec, said, changed, Halt, about-labels, Out, done, stop, M, after, next, _>>=_, ret, look, each, when, Test, plainly, inside, guard, need, commit, update, with-vars, pay, set-var, set-cell, tell, sixteen, restore, own, taken-back, undoing}
 use Rattle.monitor.specs.Syntax.{Exp, const, var, add, minus, equal, less, query, Cmd, skip, assign, seq, branch, while, put, clear, out, grant, revoke, raise, cmd-of}
-use Rattle.monitor.specs.Rules.{Key, key, key-place, in-table, from-to, Box, box-of, in-box, gather, seen, ranged, expr, Env, within-label, choose, posting, trigger-vars, region-places, trigger-run, fire, write-cell, command, eval, exec, program, run}
+use Rattle.monitor.specs.Rules.{Key, key, key-place, in-table, from-to, Box, box-of, in-box, gather, seen, ranged, expr, Mode, Env, within-label, choose, posting, trigger-vars, region-places, trigger-run, fire, write-cell, command, eval, exec, program, run}
 use Rattle.monitor.specs.Call.{script, start-cells, start-state, run-book}
 use Rattle.claims.specs.Reasons.{Bound, variable, cell, reader, everyone}
+use Rattle.claims.specs.Undone.{standing-run}
 use Rattle.claims.proofs.Views.{records, end}
 use Rattle.claims.proofs.Steps.{Any}
 use Rattle.claims.proofs.Guards.{halt, Guarded, passed, failed, guarded}
@@ -180,9 +182,9 @@ read-of n =
     of : (kind : ℕ) {y z : Cmd} → Read n y → Read n z → Read n (cond (eqb (n .kind) kind) y z)
     of kind h k = either (eqb (n .kind) kind) h k
 
-module _ (b : Book) where
-  -- ---- stops
+-- ---- stops
 
+module _ (b : Book) where
   -- a stop about labels: the set tested is not within its bound, of which `Bound` says what it is
   pub data Reasoned (h : Halt) (s : State) : Type 0 where
     outside : Bound b s h → within (h .compared .tested) (h .compared .bound) ≡ false → Small (h .compared .tested) → Reasoned h s
@@ -199,12 +201,17 @@ module _ (b : Book) where
       go true y e = e
       go false y e = absurd (false≢true (sym e))
 
-  -- ---- runs
+-- ---- runs
 
-  -- a run's records are proper, it stops for a reason, and it ends in a sized state; where it is done, P holds of its value
+module _ (b : Book) (mode : Mode) where
+  abbrev labels : Bool
+  labels = mode .labels
+
+  -- a run's records are proper, it stops for a reason, unless what it wrote is taken back, and it ends in a sized state; where it is done, P
+  -- holds of its value
   pub data Fine {A : Type 0} (P : A → Type 0) : Out A → Type 0 where
     finishes : {t : List Rec} {a : A} {s : State} → AllProper t → P a → Sized s → Fine P (done t a s)
-    stops : {t : List Rec} {h : Halt} {s : State} → AllProper t → Reasoned h s → Sized s → Fine P (stop t h s)
+    stops : {t : List Rec} {h : Halt} {s : State} → AllProper t → (mode .undoes ≡ false → Reasoned b h s) → Sized s → Fine P (stop t h s)
 
   abbrev pub Keeps : {A : Type 0} → (A → Type 0) → M A → Type 0
   Keeps P m = (s : State) → Sized s → Fine P (m s)
@@ -246,11 +253,11 @@ module _ (b : Book) where
   keeps-each (x ∷ xs) h = keeps-bind (h x) λ _ _. keeps-each xs h
 
   fine-guarded : {A : Type 0} {P : A → Type 0} {x : Test} {n i : ℕ} {m : M A} {s : State} {o : Out A}
-      → Sized s → Failing x n i s → (x .passes ≡ true → Fine P (m s)) → Guarded x n i m s o → Fine P o
+      → Sized s → Failing b x n i s → (x .passes ≡ true → Fine P (m s)) → Guarded x n i m s o → Fine P o
   fine-guarded f w h (passed e) = h e
-  fine-guarded f w h (failed e) = stops none (w e) f
+  fine-guarded f w h (failed e) = stops none (λ _. w e) f
 
-  keeps-guard : {A : Type 0} {P : A → Type 0} (x : State → Test) (n i : ℕ) {m : M A} → ((s : State) → Failing (x s) n i s) → Keeps P m → Keeps P (guard x n i m)
+  keeps-guard : {A : Type 0} {P : A → Type 0} (x : State → Test) (n i : ℕ) {m : M A} → ((s : State) → Failing b (x s) n i s) → Keeps P m → Keeps P (guard x n i m)
   keeps-guard x n i {m} w h = λ s f. fine-guarded f (w s) (λ e. h s f) (guarded x n i m s)
 
   -- what follows a test may go by it
@@ -259,10 +266,10 @@ module _ (b : Book) where
   keeps-need x n i q = λ s f. fine-guarded f (λ e. plain q) (λ e. finishes none e f) (guarded _ n i (ret tt) s)
 
   -- a test of labels, in a state that has its bound
-  fine-label-need : (labels : Bool) (l bound : Label) (n i : ℕ) (s : State) → Sized s → Bound b s (halt (inside labels l bound) n i) → Small l
+  fine-label-need : (l bound : Label) (n i : ℕ) (s : State) → Sized s → Bound b s (halt (inside labels l bound) n i) → Small l
       → Fine Any (need (inside labels l bound) n i s)
   unfolding need
-  fine-label-need labels l bound n i s f w h = fine-guarded f (fails-outside labels l bound n i w h) (λ e. finishes none tt f) (guarded _ n i (ret tt) s)
+  fine-label-need l bound n i s f w h = fine-guarded f (fails-outside b labels l bound n i w h) (λ e. finishes none tt f) (guarded _ n i (ret tt) s)
 
   keeps-commit : {t : List Rec} (f : State → State) → AllProper t → ((s : State) → Sized s → Sized (f s)) → Keeps Any (commit t f)
   keeps-commit f q h = λ s e. finishes q tt (h s e)
@@ -271,18 +278,18 @@ module _ (b : Book) where
   unfolding pay
   keeps-pay c i = keeps-guard _ 21 i (λ s e. plain refl) (keeps-commit _ none λ s f. record { cells = f .cells; short = f .short; vars = f .vars })
 
-  keeps-set-var : (labels : Bool) (i : ℕ) (c : Label) (p : ℕ) (f : Lab ℤ → Lab ℤ)
+  keeps-set-var : (i : ℕ) (c : Label) (p : ℕ) (f : Lab ℤ → Lab ℤ)
       → Small c → ((x : Lab ℤ) → Short x → Short (f x)) → Keeps Any (set-var labels i c p f)
   unfolding set-var
-  keeps-set-var labels i c p f l h = keeps-guard _ 25 i (λ s. fails-outside labels c (s .vars p .lab) 25 i (variable refl) l) (keeps-commit _ none λ s e.
+  keeps-set-var i c p f l h = keeps-guard _ 25 i (λ s. fails-outside b labels c (s .vars p .lab) 25 i (variable refl) l) (keeps-commit _ none λ s e.
       record { cells = e .cells; short = e .short; vars = short-update (s .vars) p (f (s .vars p)) (e .vars) (h (s .vars p) (e .vars p)) })
 
-  keeps-set-cell : (labels : Bool) (i : ℕ) (c : Label) (k : Key) (x : Lab Cell) → in-table k ≡ true → Small c → Full (x .lab)
+  keeps-set-cell : (i : ℕ) (c : Label) (k : Key) (x : Lab Cell) → in-table k ≡ true → Small c → Full (x .lab)
       → Keeps Any (set-cell labels i c (key-place (node-at b i .p) k) x)
   unfolding set-cell
-  keeps-set-cell labels i c k x inside l h =
+  keeps-set-cell i c k x inside l h =
       let q : ℕ = key-place (node-at b i .p) k in
-      keeps-guard _ 26 i (λ s. fails-outside labels c (s .cells q .lab) 26 i (cell refl k inside refl) l) (keeps-commit _ none λ s e.
+      keeps-guard _ 26 i (λ s. fails-outside b labels c (s .cells q .lab) 26 i (cell refl k inside refl) l) (keeps-commit _ none λ s e.
       record {
         cells = record { words = update-all (λ r y. r < 512 → length (y .lab) ≡ 8) (s .cells) q x (e .cells .words) (λ r l. h .all) };
         short = short-update (s .cells) q x (e .short) (small h);
@@ -296,9 +303,9 @@ module _ (b : Book) where
   fine-own : (v : ℕ → Lab ℤ) {o : Out (Unit {0})} → ((p : ℕ) → Short (v p)) → Fine Any o → Fine Any (restore v o)
   unfolding restore
   fine-own v h (finishes q p f) = finishes q tt (record { cells = f .cells; short = f .short; vars = h })
-  fine-own v h (stops q w f) = stops q (kept w) (record { cells = f .cells; short = f .short; vars = h })
+  fine-own v h (stops q w f) = stops q (λ e. kept (w e)) (record { cells = f .cells; short = f .short; vars = h })
     where
-      kept : {halt : Halt} {s : State} → Reasoned halt s → Reasoned halt (with-vars v s)
+      kept : {halt : Halt} {s : State} → Reasoned b halt s → Reasoned b halt (with-vars v s)
       kept (outside (variable n) x small) = outside (variable n) x small
       kept (outside (cell n k t e) x small) = outside (cell n k t e) x small
       kept (outside (reader n e) x small) = outside (reader n e) x small
@@ -308,6 +315,21 @@ module _ (b : Book) where
   keeps-own : (v : ℕ → Lab ℤ) {m : M (Unit {0})} → ((p : ℕ) → Short (v p)) → Keeps Any m → Keeps Any (own v m)
   unfolding own
   keeps-own v h k = λ s f. fine-own (s .vars) (f .vars) (k (with-vars v s) (record { cells = f .cells; short = f .short; vars = h }))
+
+  -- the cells that come back are those from which the run started
+  fine-taken-back : {s : State} {o : Out (Unit {0})} → mode .undoes ≡ true → Sized s → Fine Any o → Fine Any (taken-back (s .cells) o)
+  unfolding taken-back
+  fine-taken-back u f (finishes q p g) = finishes q p g
+  fine-taken-back u f (stops q w g) =
+      stops q (λ e. absurd (true≢false (sym u ∙ e))) (record { cells = f .cells; short = f .short; vars = g .vars })
+
+  keeps-undoing : (x : Bool) {m : M (Unit {0})} → Keeps Any m → Keeps Any (undoing (mode .undoes && x) m)
+  unfolding undoing
+  keeps-undoing x {m} h = go (mode .undoes && x) (λ e. both (mode .undoes) x e .0)
+    where
+      go : (y : Bool) → (y ≡ true → mode .undoes ≡ true) → Keeps Any (undoing y m)
+      go true u = λ s f. fine-taken-back (u refl) f (h s f)
+      go false u = h
 
   -- ---- expressions
 
@@ -333,7 +355,7 @@ module _ (b : Book) where
 
   keeps-eval : (fuel i : ℕ) → Keeps Short (eval b fuel i)
   unfolding eval
-  keeps-eval zero i = λ s f. stops none (plain refl) f
+  keeps-eval zero i = λ s f. stops none (λ _. plain refl) f
   keeps-eval (suc fuel) i = keeps-bind (keeps-pay _ i) λ _ _. keeps-expr (eval b fuel) (keeps-eval fuel) i _
 
   -- ---- commands
@@ -346,16 +368,16 @@ module _ (b : Book) where
       go true = k
       go false = h
 
-  keeps-posting : (labels : Bool) (i : ℕ) (c : Label) (user : ℕ) (k : Key) (z : Lab Cell)
+  keeps-posting : (i : ℕ) (c : Label) (user : ℕ) (k : Key) (z : Lab Cell)
       → Full c → Short z → Keeps Any (posting labels i c user (node-at b i .p) k z)
   unfolding posting under
-  keeps-posting labels i c user k z h l =
+  keeps-posting i c user k z h l =
       keeps-bind (keeps-need _ 23 i refl) λ _ keyed.
       keeps-bind {P = Any} (keeps-look _ (λ s f. tt)) λ _ _.
       keeps-bind (keeps-need _ 24 i refl) λ _ _.
-      keeps-set-cell labels i _ k _ keyed (small h) (whole-union c (z .lab) h l)
+      keeps-set-cell i _ k _ keyed (small h) (whole-union c (z .lab) h l)
 
-  module _ (labels : Bool) (rec : Env → ℕ → M (Unit {0})) (r : (e : Env) (i : ℕ) → Whole e → Keeps Any (rec e i)) where
+  module _ (rec : Env → ℕ → M (Unit {0})) (r : (e : Env) (i : ℕ) → Whole e → Keeps Any (rec e i)) where
     keeps-fire : (e : Env) (event q : ℕ) (k : Key) (z : Lab Cell) → Whole e → Short z → Keeps Any (fire b labels rec e event q k z)
     unfolding fire trigger-run
     keeps-fire e event q k z h l = keeps-each _ λ n. keeps-when _ (keeps-own _ (short-trigger-vars (e .ctx) k z h l) (r _ _ h))
@@ -364,15 +386,15 @@ module _ (b : Book) where
         → Whole e → Short k → Short z → Keeps Any (write-cell b labels rec e i event (node-at b i .p) k z)
     unfolding write-cell
     keeps-write e i event k z h l m =
-        keeps-bind (keeps-posting labels i _ (e .user) (k .val) z (whole-union (e .ctx) (k .lab) h l) m) λ _ _.
+        keeps-bind (keeps-posting i _ (e .user) (k .val) z (whole-union (e .ctx) (k .lab) h l) m) λ _ _.
         keeps-fire (within-label e k) event _ (k .val) z (whole-within e k h l) m
 
     module _ (ev : ℕ → M (Lab ℤ)) (k : (a : ℕ) → Keeps Short (ev a)) where
-      keeps-command : (e : Env) (i : ℕ) → Whole e → {x : Cmd} → Read (node-at b i) x → Keeps Any (command b labels ev rec e i x)
+      keeps-command : (e : Env) (i : ℕ) → Whole e → {x : Cmd} → Read (node-at b i) x → Keeps Any (command b mode ev rec e i x)
       unfolding command under lift lit key
       keeps-command e i h read-skip = keeps-ret tt
       keeps-command e i h read-assign = keeps-bind (k _) λ x l.
-          keeps-set-var labels i (e .ctx) _ _ (small h) (λ _ _. small-union (e .ctx) (x .lab) (small h) l)
+          keeps-set-var i (e .ctx) _ _ (small h) (λ _ _. small-union (e .ctx) (x .lab) (small h) l)
       keeps-command e i h read-seq = keeps-bind (r e _ h) λ _ _. r e _ h
       keeps-command e i h read-branch = keeps-bind (k _) λ x l.
           let w = whole-within e x h l in
@@ -380,28 +402,28 @@ module _ (b : Book) where
       keeps-command e i h read-while = keeps-bind (k _) λ x l.
           let w = whole-within e x h l in
           keeps-choose (x .val) (keeps-bind (r _ _ w) λ _ _. r _ i w) (keeps-ret tt)
-      keeps-command e i h read-put = keeps-bind (k _) λ x l. keeps-bind (k _) λ y m. keeps-bind (k _) λ z n.
-          keeps-write e i 1 (key x y) _ h (short-lift2 _ x y l m) n
-      keeps-command e i h read-clear = keeps-bind (k _) λ x l. keeps-bind (k _) λ y m.
-          keeps-write e i 2 (key x y) _ h (short-lift2 _ x y l m) (small bottom-words)
+      keeps-command e i h read-put = keeps-undoing _ (keeps-bind (k _) λ x l. keeps-bind (k _) λ y m. keeps-bind (k _) λ z n.
+          keeps-write e i 1 (key x y) _ h (short-lift2 _ x y l m) n)
+      keeps-command e i h read-clear = keeps-undoing _ (keeps-bind (k _) λ x l. keeps-bind (k _) λ y m.
+          keeps-write e i 2 (key x y) _ h (short-lift2 _ x y l m) (small bottom-words))
       keeps-command e i h read-out =
           keeps-bind (k _) λ x l. keeps-read _ _ λ s f.
-          fine-next _ (fine-label-need labels _ _ 27 i s f (reader refl refl) (small-union (e .ctx) (x .lab) (small h) l)) λ _ _. keeps-tell i _ out-record
+          fine-next _ (fine-label-need _ _ 27 i s f (reader refl refl) (small-union (e .ctx) (x .lab) (small h) l)) λ _ _. keeps-tell i _ out-record
       keeps-command e i h read-grant =
-          keeps-bind (keeps-need _ 28 i refl) λ _ _. keeps-bind (λ s f. fine-label-need labels _ _ 29 i s f (everyone refl refl) (small h)) λ _ _. keeps-tell i _ (rights-record (either (eqb (node-at b i .b) 1) 2 3 refl refl))
+          keeps-bind (keeps-need _ 28 i refl) λ _ _. keeps-bind (λ s f. fine-label-need _ _ 29 i s f (everyone refl refl) (small h)) λ _ _. keeps-tell i _ (rights-record (either (eqb (node-at b i .b) 1) 2 3 refl refl))
       keeps-command e i h read-revoke =
-          keeps-bind (keeps-need _ 28 i refl) λ _ _. keeps-bind (λ s f. fine-label-need labels _ _ 29 i s f (everyone refl refl) (small h)) λ _ _. keeps-tell i _ (rights-record (either (eqb (node-at b i .b) 1) 4 5 refl refl))
-      keeps-command e i h read-raise = keeps-set-var labels i (e .ctx) _ _ (small h) (λ x l. small-union (x .lab) _ l (small-region b _))
+          keeps-bind (keeps-need _ 28 i refl) λ _ _. keeps-bind (λ s f. fine-label-need _ _ 29 i s f (everyone refl refl) (small h)) λ _ _. keeps-tell i _ (rights-record (either (eqb (node-at b i .b) 1) 4 5 refl refl))
+      keeps-command e i h read-raise = keeps-set-var i (e .ctx) _ _ (small h) (λ x l. small-union (x .lab) _ l (small-region b _))
 
-  keeps-exec : (labels : Bool) (fuel : ℕ) (e : Env) (i : ℕ) → Whole e → Keeps Any (exec b labels fuel e i)
+  keeps-exec : (fuel : ℕ) (e : Env) (i : ℕ) → Whole e → Keeps Any (exec b mode fuel e i)
   unfolding exec
-  keeps-exec labels zero e i h = λ s f. stops none (plain refl) f
-  keeps-exec labels (suc fuel) e i h = keeps-bind (keeps-pay _ i) λ _ _.
-      keeps-command labels (exec b labels fuel) (keeps-exec labels fuel) (eval b fuel) (keeps-eval fuel) e i h (read-of (node-at b i))
+  keeps-exec zero e i h = λ s f. stops none (λ _. plain refl) f
+  keeps-exec (suc fuel) e i h = keeps-bind (keeps-pay _ i) λ _ _.
+      keeps-command (exec b mode fuel) (keeps-exec fuel) (eval b fuel) (keeps-eval fuel) e i h (read-of (node-at b i))
 
-  pub keeps-run : (labels : Bool) (fuel : ℕ) → Keeps Any (run b labels fuel)
+  pub keeps-run : (fuel : ℕ) → Keeps Any (run b mode fuel)
   unfolding run program lit
-  keeps-run labels fuel = keeps-each (b .programs) λ p. keeps-own _ (short-sixteen _ (small bottom-words)) (keeps-exec labels fuel _ _ bottom-words)
+  keeps-run fuel = keeps-each (b .programs) λ p. keeps-own _ (short-sixteen _ (small bottom-words)) (keeps-exec fuel _ _ bottom-words)
 
 -- ---- a book's run
 
@@ -419,16 +441,25 @@ sized-start b budget room =
         let h : 512 ≤ q = omega arith in
         rw (start-beyond b q h) (small-empty 0 zero-le)
 
-pub fine-run : (labels : Bool) (b : Book) (budget room : ℕ) → Fine (script b) Any (run-book labels b budget room)
-unfolding run-book
-fine-run labels b budget room = keeps-run (script b) labels budget (start-state b budget room) (sized-start b budget room)
+fine-from-start : (mode : Mode) (b : Book) (budget room : ℕ) → Fine (script b) mode Any (run (script b) mode budget (start-state b budget room))
+fine-from-start mode b budget room = keeps-run (script b) mode budget (start-state b budget room) (sized-start b budget room)
 
-pub fine-end : {b : Book} {A : Type 0} {P : A → Type 0} {o : Out A} → Fine b P o → Sized (end o)
+pub fine-run : (labels : Bool) (b : Book) (budget room : ℕ)
+    → Fine (script b) (record { labels = labels; undoes = true }) Any (run-book labels b budget room)
+unfolding run-book
+fine-run labels b budget room = fine-from-start _ b budget room
+
+pub fine-standing : (labels : Bool) (b : Book) (budget room : ℕ)
+    → Fine (script b) (record { labels = labels; undoes = false }) Any (standing-run labels b budget room)
+unfolding standing-run
+fine-standing labels b budget room = fine-from-start _ b budget room
+
+pub fine-end : {b : Book} {mode : Mode} {A : Type 0} {P : A → Type 0} {o : Out A} → Fine b mode P o → Sized (end o)
 unfolding end
 fine-end (finishes q p f) = f
 fine-end (stops q w f) = f
 
-pub fine-records : {b : Book} {A : Type 0} {P : A → Type 0} {o : Out A} → Fine b P o → AllProper (records o)
+pub fine-records : {b : Book} {mode : Mode} {A : Type 0} {P : A → Type 0} {o : Out A} → Fine b mode P o → AllProper (records o)
 unfolding records
 fine-records (finishes q p f) = q
 fine-records (stops q w f) = q

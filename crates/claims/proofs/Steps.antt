@@ -9,7 +9,7 @@ use lib.IntN.{ℤ}
 use Rattle.places.specs.Sets.{Within}
 use Rattle.places.proofs.Sets.{within-trans, empty-within, within-union-left, within-union-right, union-least}
 use Rattle.monitor.specs.Labelled.{Label, bottom, Lab}
-use Rattle.monitor.specs.Run.{Cell, Rights, State, Rec, said, Halt, Out, done, stop, M, after, next, _>>=_, ret, look, each, when, Test, guard, need, commit, with-vars, recorded, pay, set-var, set-cell, tell, restore, own}
+use Rattle.monitor.specs.Run.{Cell, Rights, State, Rec, said, Halt, Out, done, stop, M, after, next, _>>=_, ret, look, each, when, Test, guard, need, commit, with-vars, recorded, pay, set-var, set-cell, tell, restore, own, taken-back, undoing}
 use Rattle.claims.specs.TwoBooks.{Group}
 use Rattle.claims.proofs.Views.{records, sees, keep, seen-of, gifts, Begun}
 use Rattle.claims.proofs.Guards.{Guarded, passed, failed, guarded}
@@ -332,3 +332,32 @@ pub pair-own : {v : View} {w w' : ℕ → Lab ℤ} {m m' : M (Unit {0})}
     → ((p : ℕ) → Same (v .R) (w p) (w' p)) → Pair v Both m m' → Pair v Both (own w m) (own w' m')
 unfolding own
 pair-own {w = w} {w' = w'} e h = λ s s' r. match-own (s .vars) (s' .vars) (r .vars) (h (with-vars w s) (with-vars w' s') (alike-vars r e))
+
+-- ---- what a stop takes back: on a stop nobody asks for the cells, and a run that is done keeps them
+
+quiet-taken-back : {v : View} {s : State} (c : ℕ → Lab Cell) {o : Out (Unit {0})} → Quiet v Any s o → Quiet v Any s (taken-back c o)
+unfolding taken-back
+quiet-taken-back c (goes-on e r p) = goes-on e r p
+quiet-taken-back c (stops e) = stops e
+
+pub still-undoing : {v : View} (x : Bool) {m : M (Unit {0})} → Still v Any m → Still v Any (undoing x m)
+unfolding undoing
+still-undoing true h = λ s r. quiet-taken-back (s .cells) (h s r)
+still-undoing false h = h
+
+records-taken-back : (c : ℕ → Lab Cell) (o : Out (Unit {0})) → records (taken-back c o) ≡ records o
+unfolding records taken-back
+records-taken-back c (done t a s) = refl
+records-taken-back c (stop t h s) = refl
+
+match-taken-back : {v : View} (c c' : ℕ → Lab Cell) {o o' : Out (Unit {0})} → Match v Both o o' → Match v Both (taken-back c o) (taken-back c' o')
+unfolding taken-back
+match-taken-back c c' (both e r q) = both e r q
+match-taken-back c c' {o' = o'} (first-stops {t = t} f) = first-stops {t = t} {o = taken-back c' o'} (rw records-taken-back f)
+match-taken-back c c' {o = o} (second-stops {t = t} f) = second-stops {o = taken-back c o} {t = t} (rw records-taken-back f)
+match-taken-back c c' {o = o} (beyond h) = beyond {o = taken-back c o} (λ l. h (rw records-taken-back at l))
+
+pub pair-undoing : {v : View} (x : Bool) {m m' : M (Unit {0})} → Pair v Both m m' → Pair v Both (undoing x m) (undoing x m')
+unfolding undoing
+pair-undoing true h = λ s s' r. match-taken-back (s .cells) (s' .cells) (h s s' r)
+pair-undoing false h = h

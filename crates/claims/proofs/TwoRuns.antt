@@ -9,7 +9,7 @@ use Rattle.book.specs.Records.{Book}
 use Rattle.book.specs.Start.{public-set}
 use Rattle.monitor.specs.Labelled.{Label, Lab}
 use Rattle.monitor.specs.Run.{Cell, State, Rec, Out}
-use Rattle.monitor.specs.Rules.{run}
+use Rattle.monitor.specs.Rules.{monitored, run}
 use Rattle.claims.specs.TwoBooks.{Group, InsideEither}
 use Rattle.claims.proofs.Views.{records, end, is-done, seen-of, gift, gifts, Begun}
 use Rattle.claims.proofs.Low.{Hidden, within?, Same, equal, hidden, same-inside, same-sym}
@@ -70,8 +70,8 @@ pub two-runs : (b : Book) (g : Group) (R : Label) (s s' : State) (fuel fuel' : �
     → s .rights ≡ s' .rights → s .vars ≡ s' .vars
     → Within (public-set b) R → ((u : ℕ) → g u ≡ true → Within (s .rights .read u) R)
     → ((q : ℕ) → InsideEither R (s .cells q) (s' .cells q) → s .cells q ≡ s' .cells q)
-    → Within (gifts (gift b g) (records (run b true fuel s))) R
-    → Agree g R (run b true fuel s) (run b true fuel' s')
+    → Within (gifts (gift b g) (records (run b monitored fuel s))) R
+    → Agree g R (run b monitored fuel s) (run b monitored fuel' s')
 two-runs b g R s s' fuel fuel' rights vars public read cells gifts =
     agree b g R gifts (pair-run b g R public fuel fuel' s s'
     (record { cells = λ q. same-cells (cells q); vars = λ p. equal (ap (λ f. f p) vars); rights = rights; safe = record { safe = read } }))

@@ -2,17 +2,17 @@
 use mathlib.Core.Path.{_≡_}
 use mathlib.Core.List.{List}
 use mathlib.Core.Logic.{_⊎_}
-use mathlib.Core.Bool.{Bool, true, false}
+use mathlib.Core.Bool.{true, false}
 use Prim.Native.Nat.{ℕ, _≤_}
 use Rattle.book.specs.Records.{Book}
 use Rattle.monitor.specs.Run.{State}
-use Rattle.monitor.specs.Rules.{run}
+use Rattle.monitor.specs.Rules.{Mode, run}
 use Rattle.monitor.specs.Call.{Memory, Result, call}
 use Rattle.claims.specs.TwoBooks.{Group, accepted, finished, group-trace, Begins, reach, SameInside, DifferOutside, cells-in}
 
 -- Fuel is enough: any two fuels that are at least what is left of the budget give the same run.
 abbrev pub FuelEnough : Type 0
-FuelEnough = (b : Book) (labels : Bool) (fuel fuel' : ℕ) (s : State) → s .left ≤ fuel → s .left ≤ fuel' → run b labels fuel s ≡ run b labels fuel' s
+FuelEnough = (b : Book) (mode : Mode) (fuel fuel' : ℕ) (s : State) → s .left ≤ fuel → s .left ≤ fuel' → run b mode fuel s ≡ run b mode fuel' s
 
 -- Demand 2, the run with no labels: where the labelled run finishes, the other gives the same answer (it finishes, with the same cost)
 -- and leaves the same lent memory (cells and trace).

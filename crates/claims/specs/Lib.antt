@@ -1,4 +1,5 @@
 pub mod Reasons
+pub mod Undone
 pub mod TwoBooks
 pub mod Claims
 pub mod Witnesses

@@ -1,4 +1,4 @@
--- What a stop about labels is measured by, in the state in which the run stopped.
+-- What a stop about labels is measured by, in the state in which the run stopped, before anything is taken back.
 use mathlib.Core.Path.{_≡_}
 use mathlib.Core.Bool.{true}
 use Rattle.places.specs.Sets.{union}

@@ -13,7 +13,7 @@ use Rattle.places.specs.Sets.{union}
 use Rattle.book.specs.Kinds.{command}
 use Rattle.monitor.specs.Labelled.{Label, Lab, lift, under}
 use Rattle.monitor.specs.Run.{Cell, State, done, M, next, _>>_, each, when, update, sixteen, own}
-use Rattle.monitor.specs.Rules.{Key, trigger-vars, numbers, trigger-at, fitting, trigger-run, fire, exec}
+use Rattle.monitor.specs.Rules.{Key, monitored, trigger-vars, numbers, trigger-at, fitting, trigger-run, fire, exec}
 use Rattle.machine.specs.Script.{script-of, Runnable, Node}
 use Rattle.machine.specs.Store.{row-at, vars-of, used-of, Store, state}
 use Rattle.machine.specs.Promises.{Does, Enters}
@@ -60,7 +60,7 @@ module _ (code : List ℕ) (ctx : Label) (event place : ℕ) (key : Key) (z : La
   fits t = fitting (script-of code) event place (trigger-at (script-of code) t)
 
   abbrev runs : ℕ → ℕ → M (Unit {0})
-  runs t fuel = own (trigger-vars ctx key z) (exec (script-of code) true fuel
+  runs t fuel = own (trigger-vars ctx key z) (exec (script-of code) monitored fuel
       (record { ctx = ctx; user = trigger-at (script-of code) t .user; above = suc t }) (trigger-at (script-of code) t .body))
 
   abbrev some : ℕ → ℕ → ℕ → M (Unit {0})

@@ -3,3 +3,4 @@ pub mod Firing
 pub mod Numbers
 pub mod Steps
 pub mod Tests
+pub mod Undoing

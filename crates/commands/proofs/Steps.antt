@@ -1,6 +1,7 @@
 -- What a run keeps of the memory that it is lent, and the entry of a node: its cost is paid, or it stops with 21. Assumes nothing.
 use mathlib.Core.Path.{_≡_, refl, ap, _∙_}
 use mathlib.Core.List.{List, []}
+use mathlib.Core.Bool.{Bool}
 use Prim.Native.Nat.{ℕ, zero, suc, _≤_, _<_}
 use native.Mathlib.Omega.{arith}
 use lib.IntN.{ℤ}
@@ -12,11 +13,12 @@ use Rattle.monitor.specs.Labelled.{Label, Lab}
 use Rattle.monitor.specs.Run.{no-sets, stop, M, next}
 use Rattle.monitor.specs.Rules.{cost-at, exec}
 use Rattle.machine.specs.Script.{script-of}
-use Rattle.machine.specs.Store.{row-at, public-row, left-of, used-of, Store, state, Lent}
+use Rattle.machine.specs.Store.{row-at, public-row, idle, undo-of, left-of, used-of, Store, state, Lent}
 use Rattle.machine.specs.Promises.{Paid, Short, Pays, ended, Does, Enters, Commands, Who}
 use Rattle.machine.specs.declared.Outcome.{Outcome}
 use Rattle.machine.specs.declared.Outcome.the-variants.{Stopped}
 use Rattle.machine.proofs.Runs.{after-none, with-run, pay-passes, pay-fails, leaves-from, leaves-long, stops-on}
+use Rattle.machine.proofs.Stores.{idle-same}
 
 -- ---- what is kept
 
@@ -25,28 +27,39 @@ pub record Keeps (x x' : Store) : Type 0 where
   pub fits : used-of (x' .run) ≤ length (x' .trace)
   pub within : left-of (x' .run) ≤ left-of (x .run)
   pub public-same : row-at (x' .sets) public-row ≡ row-at (x .sets) public-row
+  pub undo-same : undo-of (x' .amounts) (x' .sets) ≡ undo-of (x .amounts) (x .sets)
 
 pub does-keeps : {m : ℕ → M (Unit {0})} {vars vars' : ℕ → Lab ℤ} {x x' : Store} {r : Outcome} → Does m vars x r vars' x' → Keeps x x'
 does-keeps d =
     let l = d .leaves in
     let long = leaves-long l in
-    record { same = long; fits = omega (arith, l .fits, long); within = l .within; public-same = l .public-same }
+    record { same = long; fits = omega (arith, l .fits, long); within = l .within; public-same = l .public-same; undo-same = l .undo-same }
 
 -- other numbers of the run, with no more left
 pub run-keeps : {x : Store} {run : List ℕ} → used-of (x .run) ≤ length (x .trace) → left-of run ≤ left-of (x .run) → used-of run ≡ used-of (x .run)
     → Keeps x (with-run x run)
-run-keeps u w e = record { same = refl; fits = omega (arith, e, u); within = w; public-same = refl }
+run-keeps u w e = record { same = refl; fits = omega (arith, e, u); within = w; public-same = refl; undo-same = refl }
 
 pub keeps-both : {x x' x'' : Store} → Keeps x x' → Keeps x' x'' → Keeps x x''
-keeps-both k l = record { same = l .same ∙ k .same; fits = l .fits; within = omega (arith, k .within, l .within); public-same = l .public-same ∙ k .public-same }
+keeps-both k l = record {
+  same = l .same ∙ k .same;
+  fits = l .fits;
+  within = omega (arith, k .within, l .within);
+  public-same = l .public-same ∙ k .public-same;
+  undo-same = l .undo-same ∙ k .undo-same;
+}
 
 -- a store by itself
 pub keeps-itself : {x : Store} → used-of (x .run) ≤ length (x .trace) → Keeps x x
-keeps-itself u = record { same = refl; fits = u; within = omega arith; public-same = refl }
+keeps-itself u = record { same = refl; fits = u; within = omega arith; public-same = refl; undo-same = refl }
 
 -- so it can be lent on
 pub lent-on : {code : List ℕ} {x x' : Store} → Lent code (x .sets) (x .run) (x .trace) → Keeps x x' → Lent code (x' .sets) (x' .run) (x' .trace)
 lent-on l k = record { runnable = l .runnable; public-is = k .public-same ∙ l .public-is; short = omega (arith, l .short, k .same); room = k .fits }
+
+-- and a posting is under way as it was
+pub idle-on : {x x' : Store} {b : Bool} → idle (x .sets) ≡ b → Keeps x x' → idle (x' .sets) ≡ b
+idle-on {x} {x'} e k = idle-same (x .amounts) (x' .amounts) (x .sets) (x' .sets) (k .undo-same) ∙ e
 
 -- ---- the loops' invariant: what m' does from x' on is the rest of what m does from x on
 

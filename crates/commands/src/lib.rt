@@ -8,7 +8,7 @@ use machine::Value;
 use machine::Who;
 use triggers::Fitting;
 ghost use mathlib.Core.Path.{_≡_};
-ghost use mathlib.Core.Bool.{true};
+ghost use mathlib.Core.Bool.{true, false};
 ghost use Prim.Native.Nat.{ℕ, _+_, _<_};
 ghost use lib.IntN.{ℤ};
 ghost use Rattle.places.specs.Sets.{union};
@@ -16,8 +16,8 @@ ghost use Rattle.book.specs.Kinds.{command, between};
 ghost use Rattle.book.specs.Refusals.{node-at};
 ghost use Rattle.monitor.specs.Labelled.{Label, Lab};
 ghost use Rattle.machine.specs.Script.{script-of, Runnable, Node};
-ghost use Rattle.machine.specs.Store.{cells-held, vars-of, store, Lent};
-ghost use Rattle.machine.specs.Promises.{Does, Enters, Commands, who-of};
+ghost use Rattle.machine.specs.Store.{cells-held, idle, vars-of, store, Lent};
+ghost use Rattle.machine.specs.Promises.{Does, Enters, Commands, Stands, who-of, is-own};
 ghost use Rattle.machine.specs.Writes.{key-in, cell-in, Fires};
 ghost use Rattle.commands.specs.Parts.{end-of, Decides};
 
@@ -41,7 +41,8 @@ pub fn exec(
     run: &mut Run,
     trace: &mut [u8],
 ) -> Outcome
-    requires { ⌜ Lent (now code) (now sets) (now run) (now trace) × Node command (script-of (now code)) n × (who-of (now who) .user < 8) ⌝ }
+    requires { ⌜ Lent (now code) (now sets) (now run) (now trace) × Node command (script-of (now code)) n × (who-of (now who) .user < 8)
+        × (idle (now sets) ≡ is-own (who-of (now who))) ⌝ }
     ensures { λ r. ⌜ Does (Enters (now (code .entry)) (now (ctx .entry)) (who-of (now (who .entry))) n)
         (vars-of (now (vars .entry)) (now (tags .entry))) (store (now (cells .entry)) (now (sets .entry)) (now (run .entry)) (now (trace .entry))) r
         (vars-of (now (vars .exit)) (now (tags .exit))) (store (now (cells .exit)) (now (sets .exit)) (now (run .exit)) (now (trace .exit))) ⌝ }
@@ -82,7 +83,8 @@ fn enter(
     run: &mut Run,
     trace: &mut [u8],
 ) -> Outcome
-    requires { ⌜ Lent (now code) (now sets) (now run) (now trace) × Node command (script-of (now code)) n × (who-of (now who) .user < 8) ⌝ }
+    requires { ⌜ Lent (now code) (now sets) (now run) (now trace) × Node command (script-of (now code)) n × (who-of (now who) .user < 8)
+        × (idle (now sets) ≡ is-own (who-of (now who))) ⌝ }
     ensures { λ r. ⌜ Does (Enters (now (code .entry)) (now (ctx .entry)) (who-of (now (who .entry))) n)
         (vars-of (now (vars .entry)) (now (tags .entry))) (store (now (cells .entry)) (now (sets .entry)) (now (run .entry)) (now (trace .entry))) r
         (vars-of (now (vars .exit)) (now (tags .exit))) (store (now (cells .exit)) (now (sets .exit)) (now (run .exit)) (now (trace .exit))) ⌝ }
@@ -117,7 +119,8 @@ fn branch(
     run: &mut Run,
     trace: &mut [u8],
 ) -> Outcome
-    requires { ⌜ Lent (now code) (now sets) (now run) (now trace) × Node command (script-of (now code)) n × (who-of (now who) .user < 8) ⌝ }
+    requires { ⌜ Lent (now code) (now sets) (now run) (now trace) × Node command (script-of (now code)) n × (who-of (now who) .user < 8)
+        × (idle (now sets) ≡ is-own (who-of (now who))) ⌝ }
     requires { ⌜ node-at (script-of (now code)) n .kind ≡ 19 ⌝ }
     ensures { λ r. ⌜ Does (Commands (now (code .entry)) (now (ctx .entry)) (who-of (now (who .entry))) n)
         (vars-of (now (vars .entry)) (now (tags .entry))) (store (now (cells .entry)) (now (sets .entry)) (now (run .entry)) (now (trace .entry))) r
@@ -144,7 +147,8 @@ fn repeat(
     run: &mut Run,
     trace: &mut [u8],
 ) -> Outcome
-    requires { ⌜ Lent (now code) (now sets) (now run) (now trace) × Node command (script-of (now code)) n × (who-of (now who) .user < 8) ⌝ }
+    requires { ⌜ Lent (now code) (now sets) (now run) (now trace) × Node command (script-of (now code)) n × (who-of (now who) .user < 8)
+        × (idle (now sets) ≡ is-own (who-of (now who))) ⌝ }
     requires { ⌜ node-at (script-of (now code)) n .kind ≡ 20 ⌝ }
     ensures { λ r. ⌜ Does (Commands (now (code .entry)) (now (ctx .entry)) (who-of (now (who .entry))) n)
         (vars-of (now (vars .entry)) (now (tags .entry))) (store (now (cells .entry)) (now (sets .entry)) (now (run .entry)) (now (trace .entry))) r
@@ -207,7 +211,7 @@ fn decide(
     Next::Enter(numbers::u16_at(code, at + 6))
 }
 
-// 21 put and 22 clear (event 1 and 2): the key and the amount, the write, and the triggers in context plus key label.
+// 21 put and 22 clear (event 1 and 2). A posting of the program's own is taken back if it stops; one of a trigger belongs to that under way.
 fn post(
     code: &Script,
     n: usize,
@@ -221,9 +225,51 @@ fn post(
     run: &mut Run,
     trace: &mut [u8],
 ) -> Outcome
-    requires { ⌜ Lent (now code) (now sets) (now run) (now trace) × Node command (script-of (now code)) n × (who-of (now who) .user < 8) ⌝ }
+    requires { ⌜ Lent (now code) (now sets) (now run) (now trace) × Node command (script-of (now code)) n × (who-of (now who) .user < 8)
+        × (idle (now sets) ≡ is-own (who-of (now who))) ⌝ }
     requires { ⌜ (node-at (script-of (now code)) n .kind ≡ 20 + event) × (0 < event) × (event < 3) ⌝ }
     ensures { λ r. ⌜ Does (Commands (now (code .entry)) (now (ctx .entry)) (who-of (now (who .entry))) n)
+        (vars-of (now (vars .entry)) (now (tags .entry))) (store (now (cells .entry)) (now (sets .entry)) (now (run .entry)) (now (trace .entry))) r
+        (vars-of (now (vars .exit)) (now (tags .exit))) (store (now (cells .exit)) (now (sets .exit)) (now (run .exit)) (now (trace .exit))) ⌝ }
+{
+    let own = undo::begin(sets);
+    let ran = write(
+        code,
+        n,
+        who,
+        event,
+        ctx,
+        vars,
+        tags,
+        cells,
+        sets,
+        run,
+        trace,
+    );
+    if own {
+        undo::end(ran, cells, sets);
+    }
+    ran
+}
+
+// What a put or a clear does if it is not taken back: the key and the amount, the write, and the triggers in context plus key label.
+fn write(
+    code: &Script,
+    n: usize,
+    who: &Who,
+    event: u8,
+    ctx: &[u64; 8],
+    vars: &mut [i32; 16],
+    tags: &mut [[u64; 8]; 16],
+    cells: &mut [i32; 512],
+    sets: &mut Sets,
+    run: &mut Run,
+    trace: &mut [u8],
+) -> Outcome
+    requires { ⌜ Lent (now code) (now sets) (now run) (now trace) × Node command (script-of (now code)) n × (who-of (now who) .user < 8)
+        × (idle (now sets) ≡ false) ⌝ }
+    requires { ⌜ (node-at (script-of (now code)) n .kind ≡ 20 + event) × (0 < event) × (event < 3) ⌝ }
+    ensures { λ r. ⌜ Does (Stands (now (code .entry)) (now (ctx .entry)) (who-of (now (who .entry))) n)
         (vars-of (now (vars .entry)) (now (tags .entry))) (store (now (cells .entry)) (now (sets .entry)) (now (run .entry)) (now (trace .entry))) r
         (vars-of (now (vars .exit)) (now (tags .exit))) (store (now (cells .exit)) (now (sets .exit)) (now (run .exit)) (now (trace .exit))) ⌝ }
 {
@@ -277,7 +323,7 @@ fn fire(
     run: &mut Run,
     trace: &mut [u8],
 ) -> Outcome
-    requires { ⌜ Lent (now code) (now sets) (now run) (now trace) × (place < 512) ⌝ }
+    requires { ⌜ Lent (now code) (now sets) (now run) (now trace) × (place < 512) × (idle (now sets) ≡ false) ⌝ }
     ensures { λ r. ⌜ ((own : Label) (vars : ℕ → Lab ℤ) → now (label .entry) ≡ union (now (ctx .entry)) own
         → Does (Fires (now (code .entry)) (now (ctx .entry)) (who-of (now (who .entry)) .above) event place (key-in (now (key .entry))) (cell-in event (now (key .entry)) own))
         vars (store (now (cells .entry)) (now (sets .entry)) (now (run .entry)) (now (trace .entry))) r

@@ -1,4 +1,5 @@
 pub mod Claims
 pub mod Explain
 pub mod Reasons
+pub mod Undone
 pub mod Values

@@ -4,7 +4,7 @@ use mathlib.Core.List.{List}
 use mathlib.Core.Bool.{Bool, true, false, _&&_, not, cond, true≢false, false≢true}
 use mathlib.Core.Logic.{_↔_}
 use mathlib.Core.Option.{Option, none, some}
-use Prim.Native.Nat.{ℕ, _*_, _/_, _≤_, _<_}
+use Prim.Native.Nat.{ℕ, _/_, _<_}
 use native.Mathlib.Omega.{arith}
 use lib.ListN.{length}
 use borrow.Author.Tests.{not-true}
@@ -17,17 +17,20 @@ use Rattle.book.specs.Refusals.{node-at}
 use Rattle.book.specs.Layout.{decode}
 use Rattle.book.specs.declared.Verdict.{Verdict}
 use Rattle.book.specs.declared.Verdict.the-variants as verdicts
-use Rattle.monitor.specs.Run.{Rec, State, Compared, Halt, about-labels, Out, done, stop}
-use Rattle.monitor.specs.Call.{Memory, values, script, run-book, call-verdict}
+use Rattle.monitor.specs.Labelled.{Lab}
+use Rattle.monitor.specs.Run.{Cell, Rec, State, Compared, Halt, about-labels, Out, done, stop, with-cells}
+use Rattle.monitor.specs.Rules.{standing}
+use Rattle.monitor.specs.Call.{Memory, script, run-book, call-verdict}
 use Rattle.monitor.proofs.Start.{script-public}
 use Rattle.monitor.specs.Explain.{stands, Explanation, reason, no-reason, explanation, explained, ExplainResult, explain-call}
 use Rattle.monitor.specs.declared.Answer.{Answer}
 use Rattle.claims.specs.Reasons.{Bound, variable, cell, reader, everyone}
-use Rattle.claims.proofs.Sized.{Small, Reasoned, outside, plain, Fine, finishes, stops, fine-run}
+use Rattle.claims.specs.Undone.{standing-run, SameButCells, both-done, both-stop}
+use Rattle.claims.proofs.Sized.{Small, Reasoned, outside, plain, Fine, stops, fine-standing}
+use Rattle.claims.proofs.Undone.{only-cells-back}
 use Rattle.claims.proofs.Steps.{Any}
 use Rattle.entry.specs.Entry.{Runs}
-use Rattle.entry.specs.Explain.{Explains}
-use Rattle.entry.specs.Claims.{StopsWith, Reason, TrueOf, TrueReason}
+use Rattle.entry.specs.Claims.{StopsWith, TrueOf, TrueReason}
 use Rattle.entry.proofs.Values.{run-values}
 
 -- ---- constructors that differ
@@ -106,6 +109,10 @@ module _ (file : List ℕ) (budget : ℕ) (before after : Memory) (answer : Answ
   abbrev Run : Out (Unit {0}) → Type 0
   Run o = run-book true (decode file) budget (length (before .trace) / 8) ≡ o
 
+  -- and the run in which nothing is taken back
+  abbrev Stands : Out (Unit {0}) → Type 0
+  Stands o = standing-run true (decode file) budget (length (before .trace) / 8) ≡ o
+
   abbrev True : Explanation → Type 0
   True x = TrueOf file budget before answer x
 
@@ -126,17 +133,21 @@ module _ (file : List ℕ) (budget : ℕ) (before after : Memory) (answer : Answ
   unfolding number
   same-number r w = ap number (sym r ∙ w .run-is)
 
-  stop-true : (t : List Rec) (h : Halt) (s : State) → call-verdict file budget before ≡ verdicts.Accepted → Run (stop t h s) → Reasoned (script (decode file)) h s
+  stop-true : (t : List Rec) (h : Halt) (s : State) (cells : ℕ → Lab Cell) → call-verdict file budget before ≡ verdicts.Accepted
+      → Run (stop t h (with-cells cells s)) → Stands (stop t h s) → Reasoned (script (decode file)) h s
       → (b : Bool) → about-labels (h .number) ≡ b → True (cond b (reason (h .compared)) no-reason)
   unfolding number reason stands
-  stop-true t h s v r w true a = record {
+  stop-true t h s cells v r n w true a = record {
     reason = λ p q.
         let f = picked (stands (h .compared)) 512 p q in
         let in-out = both (has (h .compared .tested) p) (not (has (h .compared .bound) p)) (f .1) in
-        let answered = run-values file budget before after answer e .stopped t h s v r in
+        let answered = run-values file budget before after answer e .stopped t h (with-cells cells s) v r in
         record {
           halt = h;
-          stops = record { accepts = v; records = t; state = s; run-is = r };
+          stops = record { accepts = v; records = t; state = with-cells cells s; run-is = r };
+          state = s;
+          stands-is = n;
+          left-is = refl;
           about = a;
           answered = (ap (λ x. x .number) answered, ap (λ x. x .at) answered);
           place = f .0;
@@ -149,17 +160,20 @@ module _ (file : List ℕ) (budget : ℕ) (before after : Memory) (answer : Answ
     none-zero = least-tally (stands (h .compared)) 512;
     names = λ halt _ _. reasoned (decode file) w a .1;
   }
-  stop-true t h s v r w false a = no-names (λ halt x y. true≢false (sym y ∙ ap about-labels (sym (same-number r x)) ∙ a))
+  stop-true t h s cells v r n w false a = no-names (λ halt x y. true≢false (sym y ∙ ap about-labels (sym (same-number r x)) ∙ a))
 
-  end-true : (o : Out (Unit {0})) → call-verdict file budget before ≡ verdicts.Accepted → Run o → Fine (script (decode file)) Any o → True (explanation o)
+  end-true : {o o' : Out (Unit {0})} → call-verdict file budget before ≡ verdicts.Accepted → Run o → Stands o'
+      → SameButCells o o' → Fine (script (decode file)) standing Any o' → True (explanation o)
   unfolding explanation number
-  end-true (done t a s) v r f = no-names (λ halt x y. true≢false (sym y ∙ ap about-labels (sym (same-number r x))))
-  end-true (stop t h s) v r (stops q w f) = stop-true t h s v r w (about-labels (h .number)) refl
+  end-true v r n both-done f = no-names (λ halt x y. true≢false (sym y ∙ ap about-labels (sym (same-number r x))))
+  end-true v r n (both-stop {t = t} {h = h} {s = s} cells) (stops q w f) = stop-true t h s cells v r n (w refl) (about-labels (h .number)) refl
 
   call-true : (v : Verdict) → call-verdict file budget before ≡ v → True (explained file budget before v)
   unfolding explained
   call-true (verdicts.Refused n i) v = no-names (λ halt x y. refused-accepted (sym v ∙ x .accepts))
-  call-true verdicts.Accepted v = end-true _ v refl (fine-run true (decode file) budget (length (before .trace) / 8))
+  call-true verdicts.Accepted v =
+      let room : ℕ = length (before .trace) / 8 in
+      end-true v refl refl (only-cells-back true (decode file) budget room) (fine-standing true (decode file) budget room)
 
 pub true-reason : TrueReason
 unfolding explain-call

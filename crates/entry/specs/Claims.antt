@@ -11,12 +11,13 @@ use lib.ListN.{length}
 use Rattle.places.specs.Sets.{has, tally}
 use Rattle.book.specs.Layout.{decode}
 use Rattle.book.specs.declared.Verdict.the-variants as verdicts
-use Rattle.monitor.specs.Run.{Rec, State, Halt, about-labels, stop}
-use Rattle.monitor.specs.Call.{Memory, values, run-book, call-verdict, call}
-use Rattle.monitor.specs.Explain.{Explanation}
+use Rattle.monitor.specs.Run.{Rec, State, Halt, about-labels, stop, with-cells}
+use Rattle.monitor.specs.Call.{Memory, Result, values, run-book, call-verdict, result-of, call}
+use Rattle.monitor.specs.Explain.{Explanation, explanation}
 use Rattle.claims.specs.TwoBooks.{Group, accepted, finished, reach, DifferOutside}
 use Rattle.claims.specs.Claims.{LearnsNothing}
 use Rattle.claims.specs.Reasons.{Bound}
+use Rattle.claims.specs.Undone.{standing-run}
 use Rattle.monitor.specs.declared.Answer.{Answer}
 use Rattle.entry.specs.Entry.{result, Runs}
 use Rattle.entry.specs.Explain.{explained, Explains}
@@ -40,7 +41,7 @@ Demand3 = (g : Group) (file file' : List ℕ) (budget budget' : ℕ) (before bef
 
 -- ---- the reason of a stop (Change 1)
 
--- A call that comes to this stop: its book is accepted, and its run stops with it, in this state.
+-- A call that comes to this stop: its book is accepted, and its run stops with it, and leaves this state.
 pub record StopsWith (file : List ℕ) (budget : ℕ) (before : Memory) (halt : Halt) : Type 0 where
   pub accepts : call-verdict file budget before ≡ verdicts.Accepted
   pub records : List Rec
@@ -50,13 +51,18 @@ pub record StopsWith (file : List ℕ) (budget : ℕ) (before : Memory) (halt : 
 -- Place p is a true reason: the call came to a stop about labels, whose number and node the answer gives; p stands in the set that it
 -- tested and not in the set that this has to lie within; `Bound` says which set of the state in which the run stopped that is, but for 25; no
 -- lower place does so; and the count is the number of all places that do.
+-- `state` is that state before anything was taken back: the run by the rule before Change 2, which takes nothing back, stops in it with the same
+-- records, and what the stop leaves differs from it in cells alone.
 pub record Reason (file : List ℕ) (budget : ℕ) (before : Memory) (answer : Answer) (p count : ℕ) : Type 0 where
   pub halt : Halt
   pub stops : StopsWith file budget before halt
+  pub state : State
+  pub stands-is : standing-run true (decode file) budget (length (before .trace) / 8) ≡ stop (stops .records) halt state
+  pub left-is : stops .state ≡ with-cells (stops .state .cells) state
   pub about : about-labels (halt .number) ≡ true
   pub answered : (values answer .number ≡ halt .number) × (values answer .at ≡ halt .node)
   pub place : p < 512
-  pub bound-is : Bound (decode file) (stops .state) halt
+  pub bound-is : Bound (decode file) state halt
   pub inside : has (halt .compared .tested) p ≡ true
   pub outside : has (halt .compared .bound) p ≡ false
   pub lowest : (q : ℕ) → q < p → has (halt .compared .tested) q ≡ true → has (halt .compared .bound) q ≡ true
@@ -73,3 +79,26 @@ pub record TrueOf (file : List ℕ) (budget : ℕ) (before : Memory) (answer : A
 abbrev pub TrueReason : Type 0
 TrueReason = (file : List ℕ) (budget : ℕ) (before after : Memory) (r : Explained)
     → Explains file budget before r after → TrueOf file budget before (r .answer) (explained r after .explanation)
+
+-- ---- what a stop takes back (Change 2)
+
+-- the result of an accepted call by the rule before Change 2: what its postings wrote stands, wherever it stops
+abbrev pub standing-result : List ℕ → ℕ → Memory → Result
+standing-result file budget before = result-of budget before (standing-run true (decode file) budget (length (before .trace) / 8))
+
+-- Cells and their labels are all that is taken back, and a stop alone takes back: an accepted call answers as by the rule before Change 2, with
+-- the same stop, node, cost and trace bytes, and leaves the same trace; and one that finishes leaves the same cells and labels too.
+pub record AsBefore (file : List ℕ) (budget : ℕ) (before after : Memory) (r : Answer) : Type 0 where
+  pub answer : accepted r ≡ true → r ≡ standing-result file budget before .answer
+  pub trace : accepted r ≡ true → after .trace ≡ standing-result file budget before .memory .trace
+  pub finishes : finished r ≡ true → result r after ≡ standing-result file budget before
+
+abbrev pub OnlyCellsBack : Type 0
+OnlyCellsBack = (file : List ℕ) (budget : ℕ) (before after : Memory) (r : Answer)
+    → Runs file budget before r after → AsBefore file budget before after r
+
+-- The tool reads the sets as they were before the taking back: what it gives of an accepted call is the explanation of the run in which nothing
+-- is taken back.
+abbrev pub ExplainedBefore : Type 0
+ExplainedBefore = (file : List ℕ) (budget : ℕ) (before after : Memory) (r : Explained) → Explains file budget before r after
+    → accepted (r .answer) ≡ true → explained r after .explanation ≡ explanation (standing-run true (decode file) budget (length (before .trace) / 8))

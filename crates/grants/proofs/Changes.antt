@@ -22,13 +22,13 @@ use Rattle.monitor.specs.Run.{Rights, Rec, changed, M, _>>_, Test, plainly, ins
 use Rattle.monitor.specs.Syntax.{cmd-of}
 use Rattle.monitor.specs.Rules.{region-places, granted, revoked, command}
 use Rattle.machine.specs.Script.{script-of, Runnable, Node}
-use Rattle.machine.specs.Store.{row-at, present-row, public-row, read-row, write-row, label-row, users-rows, Replaces, cells-held, rights-in, used-of, run-numbers, Store, store, state, Lent}
+use Rattle.machine.specs.Store.{row-at, present-row, public-row, read-row, write-row, posting-row, label-row, users-rows, Replaces, cells-held, undo-of, rights-in, used-of, run-numbers, Store, store, state, Lent}
 use Rattle.machine.specs.Promises.{Stops, Compares, Does, Commands, Who}
 use Rattle.machine.specs.declared.Outcome.{Outcome}
 use Rattle.machine.specs.declared.Outcome.the-variants.{Done, Stopped}
 use Rattle.machine.proofs.Nodes.{Read, read-at, change-p, change-a, change-b}
 use Rattle.machine.proofs.Runs.{need-holds, need-fails, with-run, comes-to, does-as, stops-on, stops-outside}
-use Rattle.machine.proofs.Stores.{no-user, users-same, users-replaced}
+use Rattle.machine.proofs.Stores.{no-user, users-same, users-replaced, undo-above}
 use Rattle.grants.specs.Rights.{altered, kind-of}
 use Rattle.traces.proofs.Records.{tell-full, tell-writes, changed-recorded}
 
@@ -65,11 +65,11 @@ abbrev first : Bool → ℕ
 first reads = cond reads read-row write-row
 
 module _ (sets sets' : List (List ℕ)) {users : ℕ → Label} (reads : Bool) (r : Replaces sets (first reads) users sets') where
-  -- the rows of a right are neither the public set nor of the cells
+  -- the rows of a right are neither the public set nor of the cells, nor of what a posting keeps
   low : (i : ℕ) → i < 2 → i < first reads
   low i h = elim reads as (λ b. i < first b) [ true ↦ h | false ↦ omega arith ]
 
-  high : (i : ℕ) → label-row ≤ i → first reads + 8 ≤ i
+  high : (i : ℕ) → posting-row ≤ i → first reads + 8 ≤ i
   high i h = elim reads as (λ b. first b + 8 ≤ i) [ true ↦ omega arith | false ↦ omega arith ]
 
   cells-stay : (amounts : List ℤ) → cells-held amounts sets ≡ cells-held amounts sets'
@@ -78,6 +78,9 @@ module _ (sets sets' : List (List ℕ)) {users : ℕ → Label} (reads : Bool) (
     where
       at : (q : ℕ) → cells-held amounts sets q ≡ cells-held amounts sets' q
       at q = rw (r .before present-row (low present-row (omega arith)), r .after (label-row + q) (high (label-row + q) (omega arith)))
+
+  undo-stays : (amounts : List ℤ) → undo-of amounts sets' ≡ undo-of amounts sets
+  undo-stays amounts = undo-above amounts sets sets' (λ i h. r .after i (high i h))
 
 -- one user's set, in the sets of one right
 abbrev one-altered : (ℕ → Label) → ℕ → Bool → Label → ℕ → Label
@@ -207,4 +210,5 @@ module _ (code : List ℕ) (ctx : Label) (n : ℕ) where
             (changed-recorded (x .trace) (used-of (x .run)) f put kind (r .p) (r .a))
             (cells-stay (x .sets) sets reads new (x .amounts))
             (rights-become code (node .p) (node .a) (node .b) (user-below code n (g .0 .runnable) (g .1)) (x .sets) sets reads grants eb new)
-            (new .before public-row (low (x .sets) sets reads new public-row (omega arith))))
+            (new .before public-row (low (x .sets) sets reads new public-row (omega arith)))
+            (undo-stays (x .sets) sets reads new (x .amounts)))

@@ -16,17 +16,23 @@ use Rattle.book.specs.Refusals.{node-at, sorted, field-fits, node-fits, no-node
 use Rattle.book.proofs.Chains.{both}
 use Rattle.book.proofs.Records.{length-records, record-at}
 use Rattle.monitor.specs.Labelled.{Label}
+use Rattle.monitor.specs.Run.{M}
 use Rattle.monitor.specs.Syntax.{Cmd, cmd-of}
-use Rattle.monitor.specs.Rules.{eval, exec}
+use Rattle.monitor.specs.Rules.{Mode, monitored, standing, eval, exec}
 use Rattle.monitor.specs.Rules as rules
 use Rattle.machine.specs.Script.{prices-start, held-count, script-of, Sound, Runnable, Node}
-use Rattle.machine.specs.Promises.{env, Commands, Who}
+use Rattle.machine.specs.Promises.{env, Commands, Stands, Who}
 
--- what a node does, once it is known which command it is
-pub command-is : (code : List ℕ) (ctx : Label) (who : Who) (n : ℕ) {y : Cmd} → cmd-of (node-at (script-of code) n) ≡ y → (fuel : ℕ)
-    → Commands code ctx who n fuel ≡ rules.command (script-of code) true (eval (script-of code) fuel) (exec (script-of code) true fuel) (env ctx who) n y
-command-is code ctx who n e fuel =
-    ap (λ (c : Cmd). rules.command (script-of code) true (eval (script-of code) fuel) (exec (script-of code) true fuel) (env ctx who) n c) e
+-- what a node does, once it is known which command it is: taken back where it stops, or not
+module _ (code : List ℕ) (ctx : Label) (who : Who) (n : ℕ) {y : Cmd} (e : cmd-of (node-at (script-of code) n) ≡ y) (fuel : ℕ) where
+  abbrev in-mode : Mode → Cmd → M (Unit {0})
+  in-mode mode c = rules.command (script-of code) mode (eval (script-of code) fuel) (exec (script-of code) monitored fuel) (env ctx who) n c
+
+  pub command-is : Commands code ctx who n fuel ≡ in-mode monitored y
+  command-is = ap (in-mode monitored) e
+
+  pub stands-is : Stands code ctx who n fuel ≡ in-mode standing y
+  stands-is = ap (in-mode standing) e
 
 -- the node's record stands at this byte of the script
 pub record Read (code : List ℕ) (at : ℕ) (x : NodeRecord) : Type 0 where

@@ -10,13 +10,13 @@ use lib.ListN.{length, length-append}
 use borrow.Author.Tests.{le-leb, lt-leb}
 use Rattle.monitor.specs.Labelled.{Label, Lab}
 use Rattle.monitor.specs.Run.{State, Rec, Compared, no-sets, about-labels, Out, done, stop, M, after, next, _>>=_, _>>_, ret, look, Test, guard, need, pay, restore, own}
-use Rattle.machine.specs.Store.{row-at, public-row, cells-held, left-of, used-of, Store, store, state, room-in, with-records}
+use Rattle.machine.specs.Store.{row-at, public-row, cells-held, undo-of, SameState, left-of, used-of, Store, store, state, room-in, with-records}
 use Rattle.machine.specs.Promises.{Stops, Paid, Compares, compared-in, halted, given, Gives, ended, Leaves, Does}
 use Rattle.machine.specs.declared.Value.{Value}
 use Rattle.machine.specs.declared.Value.the-variants as value
 use Rattle.machine.specs.declared.Outcome.{Outcome}
 use Rattle.machine.specs.declared.Outcome.the-variants.{Done, Stopped}
-use Rattle.machine.proofs.Stores.{SameState, compares-same}
+use Rattle.machine.proofs.Stores.{compares-same, compares-undo}
 use Rattle.machine.proofs.Traces.{with-none, with-length, with-both}
 
 is-done : Outcome → Bool
@@ -132,13 +132,14 @@ gives-state vars x d fuel h = rw (d .used-same) (d .is fuel h _ _ (x .sets))
 -- no record is written, and the trace bytes used stay
 leaves-none : {x : Store} {amounts : List ℤ} {sets : List (List ℕ)} {run : List ℕ} → used-of (x .run) ≤ length (x .trace)
     → left-of run ≤ left-of (x .run) → used-of run ≡ used-of (x .run) → row-at sets public-row ≡ row-at (x .sets) public-row
-    → Leaves x [] (store amounts sets run (x .trace))
-leaves-none {x} u w e p = record {
+    → undo-of amounts sets ≡ undo-of (x .amounts) (x .sets) → Leaves x [] (store amounts sets run (x .trace))
+leaves-none {x} u w e p b = record {
   trace-is = sym (with-none (x .trace) (used-of (x .run)));
   used-is = omega (arith, e);
   fits = omega (arith, e, u);
   within = w;
   public-same = p;
+  undo-same = b;
 }
 
 -- the same from numbers of the run that have as much of the trace used
@@ -150,6 +151,7 @@ leaves-from {x} {records = records} e w l = record {
   fits = l .fits;
   within = omega (arith, w, l .within);
   public-same = l .public-same;
+  undo-same = l .undo-same;
 }
 
 -- the trace is as long as it was
@@ -171,6 +173,7 @@ leaves-both {x} {x₁} {a = a} {b = b} l k =
       fits = omega (arith, k .fits, leaves-long l);
       within = omega (arith, l .within, k .within);
       public-same = k .public-same ∙ l .public-same;
+      undo-same = k .undo-same ∙ l .undo-same;
     }
 
 module _ {vars : ℕ → Lab ℤ} {x : Store} where
@@ -189,18 +192,19 @@ module _ {vars : ℕ → Lab ℤ} {x : Store} where
     -- a run that writes no record, with any answer; it may change the numbers of the run but not the trace bytes used
     pub quietly : {m : ℕ → M (Unit {0})} {r : Outcome} {vars' : ℕ → Lab ℤ} {amounts : List ℤ} {sets : List (List ℕ)} {run : List ℕ}
         → left-of run ≤ left-of (x .run) → used-of run ≡ used-of (x .run) → row-at sets public-row ≡ row-at (x .sets) public-row
+        → undo-of amounts sets ≡ undo-of (x .amounts) (x .sets)
         → ((fuel : ℕ) → left-of (x .run) ≤ fuel → m fuel (state vars x) ≡ ended r run sets [] (state vars' (store amounts sets run (x .trace))))
         → Does m vars x r vars' (store amounts sets run (x .trace))
-    quietly w e p is = record { records = []; is = is; leaves = leaves-none u w e p }
+    quietly w e p b is = record { records = []; is = is; leaves = leaves-none u w e p b }
 
     -- a test that fails, with the sets that it compares; of the sets, only the rows of a stop may change
     stops-with : {m : ℕ → M (Unit {0})} {sets : List (List ℕ)} {run : List ℕ} {number node : ℕ} {c : Compared} → Stops (x .run) number node run
-        → SameState (x .amounts) (x .sets) sets → compared-in number sets ≡ c
+        → SameState (x .amounts) (x .sets) sets → undo-of (x .amounts) sets ≡ undo-of (x .amounts) (x .sets) → compared-in number sets ≡ c
         → ((fuel : ℕ) → left-of (x .run) ≤ fuel → m fuel (state vars x) ≡ stop [] (record { number = number; node = node; compared = c }) (state vars x))
         → Does m vars x Stopped vars (store (x .amounts) sets run (x .trace))
     unfolding ended
-    stops-with {sets = sets} {run = run} s same e is =
-        quietly (omega (arith, s .left-same)) (s .used-same) (same .public-same) (λ fuel h. is fuel h
+    stops-with {sets = sets} {run = run} s same b e is =
+        quietly (omega (arith, s .left-same)) (s .used-same) (same .public-same) b (λ fuel h. is fuel h
         ∙ (λ i. stop [] (sym (halted-is sets s e) i) (record {
           cells = sym (same .cells-same) i;
           vars = vars;
@@ -213,20 +217,20 @@ module _ {vars : ℕ → Lab ℤ} {x : Store} where
     pub stops-on : {m : ℕ → M (Unit {0})} {run : List ℕ} {number node : ℕ} → about-labels number ≡ false → Stops (x .run) number node run
         → ((fuel : ℕ) → left-of (x .run) ≤ fuel → m fuel (state vars x) ≡ stop [] (record { number = number; node = node; compared = no-sets }) (state vars x))
         → Does m vars x Stopped vars (with-run x run)
-    stops-on {number = number} e s is = stops-with s (record { cells-same = refl; rights-same = refl; public-same = refl }) (plain-sets number (x .sets) e) is
+    stops-on {number = number} e s is = stops-with s (record { cells-same = refl; rights-same = refl; public-same = refl }) refl (plain-sets number (x .sets) e) is
 
     -- a test of labels, whose sets are left in the rows of a stop
     pub stops-outside : {m : ℕ → M (Unit {0})} {sets : List (List ℕ)} {run : List ℕ} {number node : ℕ} {c : Compared} → about-labels number ≡ true
         → Stops (x .run) number node run → Compares (x .sets) c sets
         → ((fuel : ℕ) → left-of (x .run) ≤ fuel → m fuel (state vars x) ≡ stop [] (record { number = number; node = node; compared = c }) (state vars x))
         → Does m vars x Stopped vars (store (x .amounts) sets run (x .trace))
-    stops-outside {number = number} e s l is = stops-with s (compares-same (x .amounts) l) (label-sets number e l) is
+    stops-outside {number = number} e s l is = stops-with s (compares-same (x .amounts) l) (compares-undo (x .amounts) l) (label-sets number e l) is
 
     -- a run that is done, and changes only the variables
     pub sets-vars : {m : ℕ → M (Unit {0})} {vars' : ℕ → Lab ℤ}
         → ((fuel : ℕ) → left-of (x .run) ≤ fuel → m fuel (state vars x) ≡ done [] tt (state vars' x)) → Does m vars x Done vars' x
     unfolding ended
-    sets-vars is = quietly (le-refl (left-of (x .run))) refl refl is
+    sets-vars is = quietly (le-refl (left-of (x .run))) refl refl refl is
 
   -- a command that stops is the end of what it begins
   pub then-stops : {m : ℕ → M (Unit {0})} (k : ℕ → M (Unit {0})) {r : Outcome} {vars' : ℕ → Lab ℤ} {x' : Store}
@@ -267,7 +271,7 @@ module _ {vars : ℕ → Lab ℤ} {x : Store} where
     pub value-stops : v ≡ value.Stopped → used-of (x .run) ≤ length (x .trace)
         → Does (λ fuel. m fuel >>= k fuel) vars x Stopped vars (with-run x run)
     unfolding ended
-    value-stops e u = quietly u (d .within) (d .used-same) refl
+    value-stops e u = quietly u (d .within) (d .used-same) refl refl
         (λ fuel h. ap (λ o. next o (k fuel)) (gives-state vars x d fuel h) ∙ next-failed v (d .label) run (x .sets) (state vars (with-run x run)) (k fuel) e)
 
     pub value-goes : {r : Outcome} {vars' : ℕ → Lab ℤ} {x' : Store} (z : ℤ) → v ≡ value.Known z

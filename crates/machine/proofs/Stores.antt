@@ -2,6 +2,7 @@
 use mathlib.Core.Path.{_≡_, refl, sym, ap, _∙_}
 use mathlib.Core.List.{List, []}
 use mathlib.Core.Bool.{Bool, true, false, _&&_, _||_, not, cond}
+use mathlib.Core.Option.{Option, some}
 use Prim.Native.Nat.{ℕ, _+_, _/_, _%_, _≤_, _<_}
 use native.Mathlib.Decide.{ℕ-discrete, decLt}
 use native.Mathlib.Nat.{not-suc-le-zero}
@@ -16,11 +17,11 @@ use Rattle.places.specs.Sets.{bit, has, single, union, without, difference}
 use Rattle.places.proofs.Sets.{union-word, difference-word, has-union, has-difference, has-single}
 use Rattle.book.specs.Start.{tabulate}
 use Rattle.book.proofs.Tabulate.{length-tabulate, tabulate-at}
-use Rattle.monitor.specs.Labelled.{Label}
-use Rattle.monitor.specs.Run.{Compared, update}
+use Rattle.monitor.specs.Labelled.{Label, Lab}
+use Rattle.monitor.specs.Run.{Cell, Compared, update}
 use Rattle.monitor.specs.Call.{rows}
 use Rattle.machine.specs.Promises.{Compares}
-use Rattle.machine.specs.Store.{row-at, present-row, public-row, read-row, write-row, tested-row, bound-row, label-row, set-rows, users-rows, Replaces, cells-held, rights-in, vars-of, cell}
+use Rattle.machine.specs.Store.{row-at, present-row, public-row, read-row, write-row, tested-row, bound-row, posting-row, touched-row, kept-present-row, kept-amounts-row, kept-labels-row, label-row, set-rows, users-rows, Replaces, cells-held, idle, kept-amount, began, undo-of, rights-in, SameState, vars-of, cell}
 
 -- the update of f at p is what holds a at p and else what f holds
 pub updated : {A : Type 0} {f g : ℕ → A} {p : ℕ} {a : A} → g p ≡ a → ((q : ℕ) → (q ≡ p → ⊥) → g q ≡ f q) → g ≡ update f p a
@@ -180,31 +181,88 @@ module _ (presence : List ℕ) (q : ℕ) (h : q < 512) (l : length presence ≡ 
       go (yes e) = in-word put j e ∙ rw (has-single 8 q j, ne-eqb j q d) (kept put (has presence j) (ltb j 512))
       go (no e) = same-word (marked put) presence j (getD-set-other presence (q / 64) (j / 64) _ 0 e)
 
+-- ---- the rows of a state
+
+-- rows that stay leave the rights
+pub rights-same : (sets sets' : List (List ℕ)) → ((i : ℕ) → 0 < i → i < tested-row → row-at sets' i ≡ row-at sets i) → rights-in sets' ≡ rights-in sets
+rights-same sets sets' e = rw (
+  users-same sets sets' read-row (λ user b. e (read-row + user) (omega arith) (omega arith)),
+  users-same sets sets' write-row (λ user b. e (write-row + user) (omega arith) (omega arith)),
+)
+
+-- and with the labels the state
+pub same-state : (amounts : List ℤ) (sets sets' : List (List ℕ)) → ((i : ℕ) → i < tested-row → row-at sets' i ≡ row-at sets i)
+    → ((q : ℕ) → row-at sets' (label-row + q) ≡ row-at sets (label-row + q)) → SameState amounts sets sets'
+unfolding cells-held
+same-state amounts sets sets' e labels = record {
+  cells-same = λ i q. record { val = record { present = has (e present-row (omega arith) i) q; amount = getD amounts q (pos 0) }; lab = labels q i };
+  rights-same = rights-same sets sets' (λ i p h. e i h);
+  public-same = e public-row (omega arith);
+}
+
+-- ---- a posting that is under way
+
+-- what a stop would take back is the same where a posting is under way in both, and each cell would come back as the same
+pub undo-same : (amounts amounts' : List ℤ) (sets sets' : List (List ℕ)) → row-at sets' posting-row ≡ row-at sets posting-row
+    → ((q : ℕ) → began amounts' sets' q ≡ began amounts sets q) → undo-of amounts' sets' ≡ undo-of amounts sets
+unfolding undo-of idle
+undo-same amounts amounts' sets sets' e same = λ i. cond (eqb (getD (e i) 0 0) 0) Option.none (some λ q. same q i)
+
+-- sets with the same rows from the touched places on
+pub began-above : (amounts : List ℤ) (sets sets' : List (List ℕ)) → ((i : ℕ) → touched-row ≤ i → row-at sets' i ≡ row-at sets i)
+    → (q : ℕ) → began amounts sets' q ≡ began amounts sets q
+unfolding began kept-amount
+began-above amounts sets sets' e q = rw (
+  e touched-row (omega arith),
+  e kept-present-row (omega arith),
+  e (kept-amounts-row + q / 8) (omega arith),
+  e (kept-labels-row + q) (omega arith),
+  e (label-row + q) (omega arith),
+)
+
+-- sets with the same rows from the first of those that bear on it
+pub undo-above : (amounts : List ℤ) (sets sets' : List (List ℕ)) → ((i : ℕ) → posting-row ≤ i → row-at sets' i ≡ row-at sets i)
+    → undo-of amounts sets' ≡ undo-of amounts sets
+undo-above amounts sets sets' e = undo-same amounts amounts sets sets' (e posting-row (omega arith)) (began-above amounts sets sets' (λ i h. e i (omega arith)))
+
+no-undo : {A : Type 0} → Option A → Bool
+no-undo Option.none = true
+no-undo (some a) = false
+
+-- where that is the same, a posting is under way in both or in neither
+pub idle-same : (amounts amounts' : List ℤ) (sets sets' : List (List ℕ)) → undo-of amounts' sets' ≡ undo-of amounts sets → idle sets' ≡ idle sets
+unfolding undo-of no-undo
+idle-same amounts amounts' sets sets' e = sym (told (idle sets') _) ∙ ap no-undo e ∙ told (idle sets) _
+  where
+    told : (b : Bool) (c : ℕ → Lab Cell) → no-undo (cond b Option.none (some c)) ≡ b
+    told true c = refl
+    told false c = refl
+
+pub undo-idle : (amounts : List ℤ) (sets : List (List ℕ)) → idle sets ≡ true → undo-of amounts sets ≡ Option.none
+unfolding undo-of
+undo-idle amounts sets e = rw e
+
+-- and so are the cells that a stop would take back, if one is
+pub began-same : (amounts amounts' : List ℤ) (sets sets' : List (List ℕ)) → undo-of amounts' sets' ≡ undo-of amounts sets → idle sets ≡ false
+    → began amounts' sets' ≡ began amounts sets
+unfolding undo-of
+began-same amounts amounts' sets sets' e busy =
+    let busy' : idle sets' ≡ false = idle-same amounts amounts' sets sets' e ∙ busy in
+    let all : some (began amounts' sets') ≡ some (began amounts sets) = rw (busy, busy') at e in
+    cc
+
 -- ---- a stop about labels
 
--- other sets of the same state: the cells, the rights and the public set
-pub record SameState (amounts : List ℤ) (sets sets' : List (List ℕ)) : Type 0 where
-  pub cells-same : cells-held amounts sets' ≡ cells-held amounts sets
-  pub rights-same : rights-in sets' ≡ rights-in sets
-  pub public-same : row-at sets' public-row ≡ row-at sets public-row
-
--- the rows of a stop are none of them
+-- the rows of a stop are none of the state
 pub compares-same : (amounts : List ℤ) {sets sets' : List (List ℕ)} {c : Compared} → Compares sets c sets' → SameState amounts sets sets'
-unfolding cells-held
-compares-same amounts {sets} {sets'} l = record {
-  cells-same = λ i q. record {
-    val = record { present = has (stays present-row (omega arith) i) q; amount = getD amounts q (pos 0) };
-    lab = l .others (label-row + q) (λ e. omega (arith, e)) (λ e. omega (arith, e)) i;
-  };
-  rights-same = rw (
-    users-same sets sets' read-row (λ user b. stays (read-row + user) (omega arith)),
-    users-same sets sets' write-row (λ user b. stays (write-row + user) (omega arith)),
-  );
-  public-same = stays public-row (omega arith);
-}
-  where
-    stays : (i : ℕ) → i < tested-row → row-at sets' i ≡ row-at sets i
-    stays i h = l .others i (λ e. omega (arith, h, e)) (λ e. omega (arith, h, e))
+compares-same amounts {sets} {sets'} l =
+    same-state amounts sets sets'
+    (λ i h. l .others i (λ e. omega (arith, h, e)) (λ e. omega (arith, h, e)))
+    (λ q. l .others (label-row + q) (λ e. omega (arith, e)) (λ e. omega (arith, e)))
+
+-- and none of a posting's
+pub compares-undo : (amounts : List ℤ) {sets sets' : List (List ℕ)} {c : Compared} → Compares sets c sets' → undo-of amounts sets' ≡ undo-of amounts sets
+compares-undo amounts {sets} {sets'} l = undo-above amounts sets sets' (λ i h. l .others i (λ e. omega (arith, h, e)) (λ e. omega (arith, h, e)))
 
 -- the two rows, stored one after the other
 pub compares-stored : (sets : List (List ℕ)) (c : Compared) → length sets ≡ set-rows → Compares sets c (set (set sets tested-row (c .tested)) bound-row (c .bound))
@@ -260,10 +318,7 @@ module _ (sets : List (List ℕ)) (q event : ℕ) (label : Label) (h : q < 512) 
       ))
 
   pub rights-stay : rights-in written ≡ rights-in sets
-  rights-stay = rw (
-    users-same sets written read-row (λ user b. other-row (read-row + user) (omega arith) (λ e. omega (arith, e))),
-    users-same sets written write-row (λ user b. other-row (write-row + user) (omega arith) (λ e. omega (arith, e))),
-  )
+  rights-stay = rights-same sets written (λ i p b. other-row i p (λ e. omega (arith, e, b)))
 
   pub public-stays : row-at written public-row ≡ row-at sets public-row
   public-stays = other-row public-row (omega arith) (λ e. omega (arith, e))

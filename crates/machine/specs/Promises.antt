@@ -2,8 +2,9 @@
 -- call to the state at the return, with that answer.
 use mathlib.Core.Path.{_≡_}
 use mathlib.Core.List.{List, []}
-use mathlib.Core.Bool.{true, cond}
+use mathlib.Core.Bool.{Bool, cond}
 use Prim.Native.Nat.{ℕ, _+_, _-_, _*_, _≤_, _<_}
+use lib.Dec.{eqb}
 use lib.IntN.{ℤ}
 use lib.ListN.{length, getD}
 use Rattle.places.specs.Sets.{union}
@@ -11,9 +12,9 @@ use Rattle.book.specs.Refusals.{node-at}
 use Rattle.monitor.specs.Labelled.{Label, Lab}
 use Rattle.monitor.specs.Run.{Cell, Rights, State, Rec, Compared, no-sets, Halt, about-labels, Out, done, stop, M}
 use Rattle.monitor.specs.Syntax.{exp-of, cmd-of}
-use Rattle.monitor.specs.Rules.{Env, expr, eval, command, exec}
+use Rattle.monitor.specs.Rules.{monitored, standing, Env, expr, eval, command, exec}
 use Rattle.machine.specs.Script.{script-of}
-use Rattle.machine.specs.Store.{row-at, public-row, tested-row, bound-row, left-of, used-of, number-of, node-of, Store, state, with-records}
+use Rattle.machine.specs.Store.{row-at, public-row, tested-row, bound-row, undo-of, left-of, used-of, number-of, node-of, Store, state, with-records}
 use Rattle.machine.specs.declared.Value.{Value}
 use Rattle.machine.specs.declared.Value.the-variants as value
 use Rattle.machine.specs.declared.Outcome.{Outcome}
@@ -91,13 +92,14 @@ ended Done run sets records s = done records tt s
 ended Stopped run sets records s = stop records (halted run sets) s
 
 -- what a run leaves of a store beside the state of the rules: the records that it writes are the new bytes of the trace, no more is left of the
--- budget than there was, and the public set stays
+-- budget than there was, the public set stays, and so does what a stop would take the cells back to
 pub record Leaves (x : Store) (records : List Rec) (x' : Store) : Type 0 where
   pub trace-is : x' .trace ≡ with-records (x .trace) (used-of (x .run)) records
   pub used-is : used-of (x' .run) ≡ used-of (x .run) + 8 * length records
   pub fits : used-of (x' .run) ≤ length (x .trace)
   pub within : left-of (x' .run) ≤ left-of (x .run)
   pub public-same : row-at (x' .sets) public-row ≡ row-at (x .sets) public-row
+  pub undo-same : undo-of (x' .amounts) (x' .sets) ≡ undo-of (x .amounts) (x .sets)
 
 -- With any fuel that is at least what is left of the budget, m goes from these variables and this store to those, with the answer r. Of a stop,
 -- all that the rules give stands in the store.
@@ -115,13 +117,22 @@ pub record Who : Type 0 where
 abbrev pub who-of : List ℕ → Who
 who-of who = record { user = getD who 0 0; above = getD who 1 0 }
 
+-- whether it is the program's own: a command of a trigger fires only triggers above some other
+abbrev pub is-own : Who → Bool
+is-own who = eqb (who .above) 0
+
 abbrev pub env : Label → Who → Env
 env ctx who = record { ctx = ctx; user = who .user; above = who .above }
 
 -- command n, and what it does once its own cost is paid
 abbrev pub Enters : List ℕ → Label → Who → ℕ → ℕ → M (Unit {0})
-Enters code ctx who n fuel = exec (script-of code) true fuel (env ctx who) n
+Enters code ctx who n fuel = exec (script-of code) monitored fuel (env ctx who) n
 
 abbrev pub Commands : List ℕ → Label → Who → ℕ → ℕ → M (Unit {0})
 Commands code ctx who n fuel =
-    command (script-of code) true (eval (script-of code) fuel) (exec (script-of code) true fuel) (env ctx who) n (cmd-of (node-at (script-of code) n))
+    command (script-of code) monitored (eval (script-of code) fuel) (exec (script-of code) monitored fuel) (env ctx who) n (cmd-of (node-at (script-of code) n))
+
+-- what it does if it is not taken back
+abbrev pub Stands : List ℕ → Label → Who → ℕ → ℕ → M (Unit {0})
+Stands code ctx who n fuel =
+    command (script-of code) standing (eval (script-of code) fuel) (exec (script-of code) monitored fuel) (env ctx who) n (cmd-of (node-at (script-of code) n))

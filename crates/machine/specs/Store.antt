@@ -1,12 +1,14 @@
 -- The arrays and slices of a run, as the state of the rules.
 use mathlib.Core.Path.{_≡_}
 use mathlib.Core.List.{List, [], _++_}
-use mathlib.Core.Bool.{cond}
-use Prim.Native.Nat.{ℕ, _+_, _-_, _*_, _/_, _≤_, _<_}
+use mathlib.Core.Bool.{Bool, cond}
+use mathlib.Core.Option.{Option, none, some}
+use Prim.Native.Nat.{ℕ, _+_, _-_, _*_, _/_, _%_, _^_, _≤_, _<_}
 use lib.Dec.{eqb, ltb}
 use lib.IntN.{ℤ, pos}
 use lib.ListN.{length, getD, take, drop}
 use Rattle.places.specs.Sets.{has}
+use Rattle.book.specs.Bytes.{signed32}
 use Rattle.book.specs.Start.{public-set}
 use Rattle.monitor.specs.Labelled.{Label, Lab}
 use Rattle.monitor.specs.Run.{Cell, Rights, State, Rec}
@@ -39,9 +41,29 @@ tested-row = write-row + 8
 abbrev pub bound-row : ℕ
 bound-row = tested-row + 1
 
+-- of a program's own posting, while its triggers run: a row that begins with a word other than 0
+abbrev pub posting-row : ℕ
+posting-row = bound-row + 1
+
+-- the places whose cells that posting has touched
+abbrev pub touched-row : ℕ
+touched-row = posting-row + 1
+
+-- the places that were present when it began
+abbrev pub kept-present-row : ℕ
+kept-present-row = touched-row + 1
+
+-- the amounts of the cells that it has touched, as they were: 32 bits in a word, eight words in a row
+abbrev pub kept-amounts-row : ℕ
+kept-amounts-row = kept-present-row + 1
+
+-- their labels, as they were
+abbrev pub kept-labels-row : ℕ
+kept-labels-row = kept-amounts-row + 64
+
 -- the label of the first cell
 abbrev pub label-row : ℕ
-label-row = bound-row + 1
+label-row = kept-labels-row + 512
 
 -- how many there are
 abbrev pub set-rows : ℕ
@@ -62,8 +84,36 @@ unfoldable pub cells-held : List ℤ → List (List ℕ) → ℕ → Lab Cell
 cells-held amounts sets q =
     record { val = record { present = has (row-at sets present-row) q; amount = getD amounts q (pos 0) }; lab = row-at sets (label-row + q) }
 
+-- whether no posting of a program is under way
+unfoldable pub idle : List (List ℕ) → Bool
+idle sets = eqb (getD (row-at sets posting-row) 0 0) 0
+
+-- the amount that is kept of the cell at q
+unfoldable pub kept-amount : List (List ℕ) → ℕ → ℤ
+kept-amount sets q = signed32 (getD (row-at sets (kept-amounts-row + q / 8)) (q % 8) 0 % 2 ^ 32)
+
+-- The cells as they were when the posting that is under way began: a cell that it has touched as it was kept, any other as it is.
+-- Presence is kept of all cells at once.
+unfoldable pub began : List ℤ → List (List ℕ) → ℕ → Lab Cell
+began amounts sets q =
+    let touched = has (row-at sets touched-row) q in
+    record {
+      val = record { present = has (row-at sets kept-present-row) q; amount = cond touched (kept-amount sets q) (getD amounts q (pos 0)) };
+      lab = cond touched (row-at sets (kept-labels-row + q)) (row-at sets (label-row + q));
+    }
+
+-- to what a stop would take the cells back: none while no posting is under way
+unfoldable pub undo-of : List ℤ → List (List ℕ) → Option (ℕ → Lab Cell)
+undo-of amounts sets = cond (idle sets) none (some (began amounts sets))
+
 abbrev pub rights-in : List (List ℕ) → Rights
 rights-in sets = record { read = users-rows sets read-row; write = users-rows sets write-row }
+
+-- other sets of the same state: the cells, the rights and the public set
+pub record SameState (amounts : List ℤ) (sets sets' : List (List ℕ)) : Type 0 where
+  pub cells-same : cells-held amounts sets' ≡ cells-held amounts sets
+  pub rights-same : rights-in sets' ≡ rights-in sets
+  pub public-same : row-at sets' public-row ≡ row-at sets public-row
 
 -- the sixteen variables: their values, and a row for each label
 unfoldable pub vars-of : List ℤ → List (List ℕ) → ℕ → Lab ℤ

@@ -7,7 +7,7 @@ use lib.IntN.{ℤ, pos}
 use lib.ListN.{length, getD}
 use Rattle.monitor.specs.Labelled.{Label, Lab}
 use Rattle.monitor.specs.Run.{Cell, M}
-use Rattle.monitor.specs.Rules.{Key, key-place, posting, fire, exec}
+use Rattle.monitor.specs.Rules.{Key, key-place, posting, monitored, fire, exec}
 use Rattle.machine.specs.Script.{script-of}
 use Rattle.machine.specs.Store.{used-of, cell, store}
 use Rattle.machine.specs.Promises.{Does}
@@ -40,4 +40,4 @@ cell-in event key own = record { val = cell event (getD key 2 (pos 0)); lab = ow
 -- the triggers from number `above` on
 abbrev pub Fires : List ℕ → Label → ℕ → ℕ → ℕ → Key → Lab Cell → ℕ → M (Unit {0})
 Fires code ctx above event place k z fuel =
-    fire (script-of code) true (exec (script-of code) true fuel) (record { ctx = ctx; user = 0; above = above }) event place k z
+    fire (script-of code) true (exec (script-of code) monitored fuel) (record { ctx = ctx; user = 0; above = above }) event place k z

@@ -66,7 +66,7 @@ pub const TRIGGERS_COUNT: usize = COUNTS + 8;
 pub const SCRIPT_BYTES: usize = COUNTS + 10;
 
 // All sets of a run, each a row: the places that are present, those that are public, eight users' read sets and write sets, the two sets of a
-// stop, and the labels of the 512 cells. The labels are last, so that a place that is none would not find another set.
+// stop, what is kept of a posting until it ends, and the labels of the 512 cells. The labels are last, so that a place that is none would not find another set.
 pub type Sets = [[u64; 8]; SET_ROWS];
 
 // The rows of sets; those of rights and labels are the first of theirs.
@@ -83,7 +83,20 @@ pub const TESTED: usize = WRITE + 8;
 
 pub const BOUND: usize = TESTED + 1;
 
-pub const LABELS: usize = BOUND + 1;
+// Of a program's own posting, while its triggers run: a row that begins with a word other than 0.
+pub const POSTING: usize = BOUND + 1;
+
+// What that posting needs to be taken back: the places whose cells are kept, as they were when first touched; all places that were present
+// when it began; and of the kept cells the amounts, 32 bits in a word and eight words in a row, and the labels.
+pub const TOUCHED: usize = POSTING + 1;
+
+pub const KEPT_PRESENT: usize = TOUCHED + 1;
+
+pub const KEPT_AMOUNTS: usize = KEPT_PRESENT + 1;
+
+pub const KEPT_LABELS: usize = KEPT_AMOUNTS + 64;
+
+pub const LABELS: usize = KEPT_LABELS + 512;
 
 pub const SET_ROWS: usize = LABELS + 512;
 

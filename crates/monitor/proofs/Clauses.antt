@@ -60,6 +60,14 @@ run-clauses = record {
   vars-back = refl;
   vars-back-left = refl;
   vars-back-stopped = (refl, refl);
+  done-stays = (refl, (refl, refl, refl), refl);
+  cells-back = refl;
+  stop-stays = (refl, (refl, refl, refl));
+  undone = refl;
+  undone-else = (refl, (refl, refl, refl));
+  undone-done = (refl, (refl, refl, refl), refl);
+  undone-from = refl;
+  not-undone = (refl, refl, (refl, refl, refl));
 }
 
 pub rule-clauses : RuleClauses
@@ -136,6 +144,16 @@ rule-clauses = record {
   puts-there = refl;
   puts-not = refl;
   clears = (refl, refl);
+  puts-undone = refl;
+  puts-undone-cells = refl;
+  puts-undone-left = refl;
+  puts-in-body = (refl, refl);
+  puts-done = (refl, refl);
+  puts-before = (refl, refl);
+  clears-undone = (refl, refl);
+  clears-in-body = (refl, refl);
+  clears-done = (refl, refl);
+  clears-before = (refl, refl);
   tells = refl;
   tells-not = refl;
   tells-not-in-context = refl;
@@ -162,7 +180,7 @@ rule-clauses = record {
 }
 
 pub call-clauses : CallClauses
-unfolding called-quick w-file cells-of amounts-in presence-in labels-in start-cells start-state run-book start-amounts start-presence own-labels single answered
+unfolding called-quick w-file cells-of amounts-in presence-in labels-in start-cells start-state run-book start-amounts start-presence own-labels single answered call
 call-clauses = record {
   numbers = refl;
   cells-lent = refl;
@@ -193,6 +211,7 @@ call-clauses = record {
   refused-untouched = refl;
   room-of-trace = refl;
   counted = refl;
+  posting-fails = (refl, refl, refl, refl, refl);
 }
 
 pub explain-clauses : ExplainClauses
@@ -211,6 +230,8 @@ explain-clauses = record {
   refused = refl;
   raised-call = (refl, refl);
   put-call = (refl, refl);
+  put-again-call = (refl, refl);
+  assign-after-call = (refl, refl);
   refused-call = (refl, refl);
   refused-lent = refl;
   w-call = refl;

@@ -1,9 +1,9 @@
 -- The worked examples hold, by computation. Assumes nothing.
 use mathlib.Core.Path.{refl}
 use mathlib.Core.Bool.{true, false}
-use Rattle.monitor.specs.Examples.{examples, Examples, unlabelled, Unlabelled}
+use Rattle.monitor.specs.Examples.{examples, Examples, unlabelled, Unlabelled, failures, Failures}
 use Rattle.monitor.specs.Shortcuts.{shortcuts, Shortcuts}
-use Rattle.monitor.proofs.Tables.{ran-quick, by-running}
+use Rattle.monitor.proofs.Tables.{ran-quick, by-running, left-quick, by-leaving}
 
 pub worked-examples : Examples
 unfolding ran-quick examples
@@ -16,3 +16,8 @@ unlabelled-examples = by-running false unlabelled (λ z n. refl)
 pub no-shortcuts : Shortcuts
 unfolding ran-quick shortcuts
 no-shortcuts = by-running true shortcuts (λ z n. refl)
+
+pub failed-postings : Failures
+unfolding left-quick failures
+failed-postings true = by-leaving true failures (λ z n. refl)
+failed-postings false = by-leaving false failures (λ z n. refl)

@@ -1,7 +1,7 @@
 -- What the calls and runs of a table show, by computation: every definition that they compute with is opened in one place. The cells at
 -- the start are taken place by place, which is quicker than from 4,096 label words. Assumes nothing.
 use mathlib.Core.Path.{_≡_, refl, ap, _∙_, fun-ext}
-use mathlib.Core.List.{List, map-congr-left}
+use mathlib.Core.List.{List, map, map-congr-left}
 use mathlib.Core.Bool.{Bool, true}
 use Prim.Native.Nat.{ℕ, _/_}
 use lib.IntN.{ℤ, pos}
@@ -18,11 +18,12 @@ use Rattle.book.specs.Start.{tabulate, amount-at, rights-hold, right-set}
 use Rattle.book.specs.declared.Verdict.{Verdict}
 use Rattle.book.specs.declared.Verdict.the-variants.{Accepted, Refused}
 use Rattle.monitor.specs.Labelled.{Lab, lit, lift, lift2, via, under}
-use Rattle.monitor.specs.Run.{Cell, Out, after, next, each, when, guard, need, update, pay, set-var, set-cell, tell, sixteen, restore, own}
+use Rattle.monitor.specs.Run.{Cell, Out, after, next, each, when, guard, need, update, pay, set-var, set-cell, tell, sixteen, restore, own, taken-back, undoing}
 use Rattle.monitor.specs.Syntax.{exp-of, cmd-of}
 use Rattle.monitor.specs.Rules.{fits-32, equals, less-than, key, from-to, box-of, in-box, gather, seen, amounts-of, count-of, sum-of, best, best-of, aggregate, ranged, expr, within-label, choose, key-place, in-table, posting, trigger-vars, numbers, region-places, granted, revoked, fitting, trigger-run, fire, write-cell, command, eval, exec, program, run}
 use Rattle.monitor.specs.Call.{Memory, Result, values, record-bytes, trace-bytes, script, rows, start-rights, start-state, run-book, call-verdict, memory-after, result-of, answered, call, cut, trace-records}
-use Rattle.monitor.specs.Tables.{Shown, Row, lent, shown, called, book-answered, ran, Shows}
+use Rattle.monitor.specs.Samples.{final}
+use Rattle.monitor.specs.Tables.{Shown, Row, lent, shown, called, book-answered, ran, Shows, Leaving, left, Leaves}
 use Rattle.monitor.specs.declared.Answer.the-variants as answers
 use Rattle.monitor.proofs.Start.{start-cell, start-is}
 
@@ -30,7 +31,7 @@ use Rattle.monitor.proofs.Start.{start-cell, start-is}
 
 run-from : Bool → (Book → ℕ → Lab Cell) → Book → ℕ → ℕ → Out (Unit {0})
 run-from labels cells b budget room =
-    run (script b) labels budget (record { cells = cells b; vars = sixteen (lit (pos 0)); rights = start-rights b; left = budget; room = room })
+    run (script b) (record { labels = labels; undoes = true }) budget (record { cells = cells b; vars = sixteen (lit (pos 0)); rights = start-rights b; left = budget; room = room })
 
 abbrev Running : Type 0
 Running = Book → ℕ → ℕ → Out (Unit {0})
@@ -75,10 +76,22 @@ ran-same labels z n row =
     same m (Refused number index) = refl
     same m Accepted = refl
 
+-- the cells at the end of a row's run
+cells-by : Running → Leaving → List (Lab Cell)
+cells-by running x =
+    let row : Row Book = x .row in
+    map (final (running (row .of) (row .budget) (row .trace / 8)) .cells) (x .places)
+
+left-same : (labels : Bool) (z : ℤ) (n : ℕ) (x : Leaving) → left labels z n x ≡ (ran-by (run-quick labels) z n (x .row), cells-by (run-quick labels) x)
+unfolding left cells-by
+left-same labels z n x =
+    let cells = ap (λ (running : Running). cells-by running x) (same-runs labels) in
+    λ i. (ran-same labels z n (x .row) i, cells i)
+
 -- ---- tables that hold by computation
 
 unfoldable pub called-quick : ℤ → ℕ → Row (List ℕ) → Shown
-unfolding has word-of set-of word-by-word union difference within in-region region-set records section-bytes cells-format regions-format rights-format nodes-format programs-format triggers-format in-order bounds decode cost-of sort-of fields-of and-then refusals.need refusals.marked first blame length-fits mark-fits sections-fit cell-fits rises bad-cell region-fits bad-region right-fits bad-right field-fits node-fits is-command program-fits bad-program forbidden reaches trigger-fits bad-trigger book-verdict verdict extents distance-to-end pairs other-sections trailer-bytes encode tabulate amount-at rights-hold right-set lit lift lift2 via under after next each when guard need update pay set-var set-cell tell sixteen restore own exp-of cmd-of fits-32 equals less-than key from-to box-of in-box gather seen amounts-of count-of sum-of best best-of aggregate ranged expr within-label is-zero choose key-place in-table posting trigger-vars numbers region-places granted revoked fitting trigger-run fire write-cell command eval exec program run values record-bytes trace-bytes script rows start-rights call-verdict memory-after result-of cut trace-records lent start-cell shown run-from run-quick answered-by called-by
+unfolding has word-of set-of word-by-word union difference within in-region region-set records section-bytes cells-format regions-format rights-format nodes-format programs-format triggers-format in-order bounds decode cost-of sort-of fields-of and-then refusals.need refusals.marked first blame length-fits mark-fits sections-fit cell-fits rises bad-cell region-fits bad-region right-fits bad-right field-fits node-fits is-command program-fits bad-program forbidden reaches trigger-fits bad-trigger book-verdict verdict extents distance-to-end pairs other-sections trailer-bytes encode tabulate amount-at rights-hold right-set lit lift lift2 via under after next each when guard need update pay set-var set-cell tell sixteen restore own taken-back undoing exp-of cmd-of fits-32 equals less-than key from-to box-of in-box gather seen amounts-of count-of sum-of best best-of aggregate ranged expr within-label is-zero choose key-place in-table posting trigger-vars numbers region-places granted revoked fitting trigger-run fire write-cell command eval exec program run values record-bytes trace-bytes script rows start-rights call-verdict memory-after result-of cut trace-records lent start-cell shown run-from run-quick answered-by called-by
 called-quick = called-by (run-quick true)
 
 unfoldable pub ran-quick : Bool → ℤ → ℕ → Row Book → Shown
@@ -92,3 +105,12 @@ by-calling rows h z n = map-congr-left {l = rows} (λ row _. called-same z n row
 pub by-running : (labels : Bool) (rows : List (Row Book)) → Shows (ran-quick labels) rows → Shows (ran labels) rows
 unfolding ran-quick
 by-running labels rows h z n = map-congr-left {l = rows} (λ row _. ran-same labels z n row) ∙ h z n
+
+unfoldable pub left-quick : Bool → ℤ → ℕ → Leaving → Shown × List (Lab Cell)
+unfolding ran-quick cells-by
+left-quick labels z n x = (ran-quick labels z n (x .row), cells-by (run-quick labels) x)
+
+pub by-leaving : (labels : Bool) (rows : List Leaving)
+    → ((z : ℤ) (n : ℕ) → map (left-quick labels z n) rows ≡ map (λ (x : Leaving). (x .row .shows, x .cells)) rows) → Leaves labels rows
+unfolding left-quick
+by-leaving labels rows h z n = map-congr-left {l = rows} (λ x _. left-same labels z n x) ∙ h z n

@@ -1,6 +1,6 @@
 -- The whole call: from a file, a budget and lent memory to the answer and the memory at exit.
 use mathlib.Core.List.{List, [], _∷_, _++_}
-use mathlib.Core.Bool.{Bool, _&&_}
+use mathlib.Core.Bool.{Bool, true, _&&_}
 use Prim.Native.Nat.{ℕ, zero, suc, _-_, _*_, _/_}
 use lib.Dec.{eqb, leb}
 use lib.IntN.{ℤ, pos}
@@ -88,7 +88,7 @@ start-state b budget room = record { cells = start-cells b; vars = sixteen (lit 
 
 -- the run of a book; the budget is fuel enough
 unfoldable pub run-book : Bool → Book → ℕ → ℕ → Out (Unit {0})
-run-book labels b budget room = run (script b) labels budget (start-state b budget room)
+run-book labels b budget room = run (script b) (record { labels = labels; undoes = true }) budget (start-state b budget room)
 
 -- ---- the call
 

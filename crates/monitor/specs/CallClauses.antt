@@ -7,7 +7,7 @@ use lib.IntN.{pos, negsuc}
 use lib.ListN.{getD, take, drop, replicate}
 use Rattle.book.specs.Records.{Book}
 use Rattle.book.specs.Encode.{encode}
-use Rattle.book.specs.Tables.{table-region, constant, variable, both, out, raise, program, w-file}
+use Rattle.book.specs.Tables.{cell, table-region, may-write, constant, variable, both, put, clear, out, raise, program, trigger, w-file}
 use Rattle.book.specs.declared.Verdict.{Verdict}
 use Rattle.book.specs.declared.Verdict.the-variants as verdicts
 use Rattle.monitor.specs.Labelled.{lit}
@@ -54,6 +54,17 @@ telling-twice = encode (record {
   programs = program 0 2 ∷ [];
   triggers = [];
 })
+
+-- the call of a book in which 2 is put at (0,0,0), and the trigger clears (0,0,2), puts 2 at (0,0,1), which is absent, and stops at owner 8
+abbrev pub failing-call : Call.Result
+failing-call = Call.call true (encode (record {
+  cells = cell 0 0 0 (pos 5) ∷ cell 0 0 2 (pos 6) ∷ [];
+  regions = table-region 0 ∷ [];
+  rights = may-write 0 0 ∷ [];
+  nodes = constant (pos 0) ∷ constant (pos 1) ∷ constant (pos 2) ∷ constant (pos 8) ∷ put 0 0 0 2 ∷ clear 0 0 2 ∷ put 0 0 1 2 ∷ put 0 3 0 0 ∷ both 5 6 ∷ both 8 7 ∷ [];
+  programs = program 0 4 ∷ [];
+  triggers = trigger 0 1 0 9 ∷ [];
+})) 100 (lent 512 8 4096 16)
 
 -- a run that told two records and left 93
 abbrev pub finished-run : Out (Unit {0})
@@ -125,3 +136,8 @@ pub record CallClauses : Type 0 where
       (record { answer = Finished 7 16; memory = record { amounts = []; presence = []; labels = []; trace = two-records } }
       ∷ record { answer = Stopped 27 9 7 8; memory = record { amounts = []; presence = []; labels = []; trace = two-records } } ∷ [])
       ≡ ((1 ∷ 1 ∷ 0 ∷ 0 ∷ 5 ∷ 0 ∷ 0 ∷ 0 ∷ []) ∷ (2 ∷ 3 ∷ 1 ∷ 0 ∷ 0 ∷ 0 ∷ 0 ∷ 0 ∷ []) ∷ []) ∷ ((1 ∷ 1 ∷ 0 ∷ 0 ∷ 5 ∷ 0 ∷ 0 ∷ 0 ∷ []) ∷ []) ∷ []
+  -- a posting that fails, from the file to lent memory: amounts, presence and labels are those of the start, and what it cost is spent: 4, two
+  -- sequences, 3, 4 and 4
+  pub posting-fails : (failing-call .answer ≡ Stopped 23 7 17 0) × (take 3 (failing-call .memory .amounts) ≡ pos 5 ∷ pos 0 ∷ pos 6 ∷ [])
+      × (failing-call .memory .presence ≡ eight 5) × (take 24 (failing-call .memory .labels) ≡ eight 1 ++ eight 2 ++ eight 4)
+      × (failing-call .memory .trace ≡ replicate 16 4)

@@ -1,12 +1,14 @@
 -- Worked examples: what the rules give in single cases, among them cases in which comparing two books shows nothing.
 -- The answers are worked out by hand from the paper. A query with its four bounds costs 8, every other node 1.
 use mathlib.Core.List.{List, [], _∷_, _++_}
-use mathlib.Core.Bool.{true, false}
+use mathlib.Core.Bool.{Bool, true, false}
 use Prim.Native.Nat.{ℕ}
 use lib.IntN.{pos}
-use Rattle.book.specs.Records.{RightRecord, NodeRecord, TriggerRecord, Book}
+use Rattle.book.specs.Records.{RightRecord, NodeRecord, ProgramRecord, TriggerRecord, Book}
 use Rattle.book.specs.Tables.{cell, table-region, public, may-read, may-write, constant, variable, plus, minus, equals, less, count, sum, smallest, largest, skip, assign, both, if, while, put, clear, out, grant-read, grant-write, revoke-read, revoke-write, raise, program, trigger, w-rights, w-nodes}
-use Rattle.monitor.specs.Tables.{Row, ran, Shows, run-list, shows, told, changed}
+use Rattle.monitor.specs.Labelled.{Label, Lab, lit}
+use Rattle.monitor.specs.Run.{Cell, held, absent}
+use Rattle.monitor.specs.Tables.{Shown, Row, ran, Shows, run-list, shows, told, changed, Leaving, Leaves}
 use Rattle.monitor.specs.Marked.{w-with, beyond, branching}
 
 -- ---- without triggers: W with other nodes from 4 on; nodes 0 to 3 are the constants 0, 1, 2, 7
@@ -250,3 +252,111 @@ unlabelled =
 
 abbrev pub Unlabelled : Type 0
 Unlabelled = Shows (ran false) unlabelled
+
+-- ---- postings that fail: a stop inside a trigger's body takes back the program's own put or clear that began it, and nothing else
+
+-- User 0 may write tables 0 to 2, and cell (n,1,0) of table n holds 5 + n.
+-- 4 and 9 put 2 and 1 at (0,1,0), and 5 clears it; 6 puts 2 at (1,1,0), and 7 clears it; 8 puts 2 at (1,1,1), which is absent; 10 puts 2 at
+-- (2,1,0). 11 stops with 23 at owner 8, and so do 12 to 14, 16 and 17 after a write or two. 20 puts 2 at (1,1,0), but stops as 17 if it is 2.
+abbrev pub fallible : List NodeRecord
+fallible =
+    constant (pos 0) ∷ constant (pos 1) ∷ constant (pos 2) ∷ constant (pos 8)
+    ∷ put 0 1 0 2 ∷ clear 0 1 0 ∷ put 1 1 0 2 ∷ clear 1 1 0 ∷ put 1 1 1 2 ∷ put 0 1 0 1 ∷ put 2 1 0 2 ∷ put 0 3 0 1
+    ∷ both 6 11 ∷ both 9 11 ∷ both 10 11 ∷ both 8 7 ∷ both 15 11 ∷ both 7 11
+    ∷ sum 1 1 1 0 0 ∷ equals 18 2 ∷ if 19 17 6 ∷ []
+
+-- with further nodes from 21 on, these programs and these triggers
+abbrev pub failing : List NodeRecord → List ProgramRecord → List TriggerRecord → Book
+failing nodes programs triggers =
+    record {
+      cells = cell 0 1 0 (pos 5) ∷ cell 1 1 0 (pos 6) ∷ cell 2 1 0 (pos 7) ∷ [];
+      regions = table-region 0 ∷ table-region 1 ∷ table-region 2 ∷ [];
+      rights = may-write 0 0 ∷ may-write 0 1 ∷ may-write 0 2 ∷ [];
+      nodes = fallible ++ nodes;
+      programs = programs;
+      triggers = triggers;
+    }
+
+-- places of tables 0 to 2
+abbrev pub within-three : ℕ → ℕ → ℕ → Label
+within-three a b c = a ∷ b ∷ c ∷ 0 ∷ 0 ∷ 0 ∷ 0 ∷ 0 ∷ []
+
+-- cells (0,1,0), (1,1,0), (1,1,1) and (2,1,0) at the start, each labelled with its own place
+abbrev pub start-0 : Lab Cell
+start-0 = record { val = held (pos 5); lab = within-three 256 0 0 }
+
+abbrev pub start-1 : Lab Cell
+start-1 = record { val = held (pos 6); lab = within-three 0 256 0 }
+
+abbrev pub start-1-1 : Lab Cell
+start-1-1 = record { val = absent; lab = within-three 0 512 0 }
+
+abbrev pub start-2 : Lab Cell
+start-2 = record { val = held (pos 7); lab = within-three 0 0 256 }
+
+-- a constant that was put there, and a cell that was cleared: their labels are empty
+abbrev pub now-2 : Lab Cell
+now-2 = lit (held (pos 2))
+
+abbrev pub now-absent : Lab Cell
+now-absent = lit absent
+
+-- a row that says what is left in these four
+abbrev pub leaves : Row Book → List (Lab Cell) → Leaving
+leaves row cells = record { row = row; places = 8 ∷ 72 ∷ 73 ∷ 136 ∷ []; cells = cells }
+
+abbrev pub untouched : List (Lab Cell)
+untouched = start-0 ∷ start-1 ∷ start-1-1 ∷ start-2 ∷ []
+
+-- the program that puts 2 at (0,1,0), with these triggers; the put and its three constants cost 4
+abbrev pub put-fires : List TriggerRecord → Shown → Leaving
+put-fires triggers shown = leaves (run-list (failing [] (program 0 4 ∷ []) triggers) shown) untouched
+
+unfoldable pub failures : List Leaving
+failures =
+    -- no stop: the put, the put and the clear of its trigger stay; 4, and 15 with puts of 4 and 3
+    leaves (run-list (failing [] (program 0 4 ∷ []) (trigger 0 1 0 15 ∷ [])) (shows 0 0 12 0 [])) (now-2 ∷ now-absent ∷ now-2 ∷ start-2 ∷ [])
+    -- a stop in the first trigger, which has written (1,1,0): 4, and 12 with twice 4
+    ∷ put-fires (trigger 0 1 0 12 ∷ []) (shows 23 11 13 0 [])
+    -- in the second, after the first is done: three times 4
+    ∷ put-fires (trigger 0 1 0 6 ∷ trigger 0 1 0 11 ∷ []) (shows 23 11 12 0 [])
+    -- in a trigger that a trigger's write has fired, which has written (2,1,0): 4, 4, and 14 with twice 4
+    ∷ put-fires (trigger 0 1 0 6 ∷ trigger 1 1 0 14 ∷ []) (shows 23 11 17 0 [])
+    -- in the first, after the trigger that its write has fired is done: 4, 12, 4, the other's 4, and 4
+    ∷ put-fires (trigger 0 1 0 12 ∷ trigger 1 1 0 10 ∷ []) (shows 23 11 17 0 [])
+    -- after a trigger has written the program's own cell again: what was there before the put comes back
+    ∷ put-fires (trigger 0 1 0 13 ∷ []) (shows 23 11 13 0 [])
+    -- after the put of an absent cell and the clear of another: 4, 16, 15, 4, 3, and 4
+    ∷ put-fires (trigger 0 1 0 16 ∷ []) (shows 23 11 17 0 [])
+    -- by 24: user 3 may not write table 1
+    ∷ put-fires (trigger 0 1 3 6 ∷ []) (shows 24 6 8 0 [])
+    -- by 21 on the body's root, and on a node below, after (1,1,0) is written
+    ∷ leaves (record { of = failing [] (program 0 4 ∷ []) (trigger 0 1 0 6 ∷ []); budget = 4; trace = 4096; shows = shows 21 6 4 0 [] }) untouched
+    ∷ leaves (record { of = failing [] (program 0 4 ∷ []) (trigger 0 1 0 12 ∷ []); budget = 10; trace = 4096; shows = shows 21 3 10 0 [] }) untouched
+    -- the program's own clear: 3, and 12 with twice 4
+    ∷ leaves (run-list (failing [] (program 0 5 ∷ []) (trigger 0 2 0 12 ∷ [])) (shows 23 11 12 0 [])) untouched
+    -- of two postings the second fails: the first stays, with what its trigger wrote; 21, 4, the trigger's 4, 4, and 12 with twice 4
+    ∷ leaves (run-list (failing (both 10 4 ∷ []) (program 0 21 ∷ []) (trigger 2 1 0 8 ∷ trigger 0 1 0 12 ∷ [])) (shows 23 11 22 0 []))
+    (start-0 ∷ start-1 ∷ now-2 ∷ now-2 ∷ [])
+    -- and where both write the same cells, they are as the first left them; 21, clear of 3, the trigger's 4, 4, and 17 with 3 and 4
+    ∷ leaves (run-list (failing (both 5 4 ∷ []) (program 0 21 ∷ []) (trigger 0 2 0 6 ∷ trigger 0 1 0 17 ∷ [])) (shows 23 11 20 0 []))
+    (now-absent ∷ now-2 ∷ start-1-1 ∷ start-2 ∷ [])
+    -- or the second program's
+    ∷ leaves (run-list (failing [] (program 0 10 ∷ program 0 4 ∷ []) (trigger 0 1 0 12 ∷ [])) (shows 23 11 17 0 []))
+    (start-0 ∷ start-1 ∷ start-1-1 ∷ now-2 ∷ [])
+    -- inside an if: its 2, 4, and 12 with twice 4
+    ∷ leaves (run-list (failing (skip ∷ if 1 4 21 ∷ []) (program 0 22 ∷ []) (trigger 0 1 0 12 ∷ [])) (shows 23 11 15 0 [])) untouched
+    -- inside a while, on the second turn, whose clear of (1,1,0) is taken back: each turn's 2 and 4, and the test's 11; then 4, or 17 with 3 and 4.
+    -- What the first turn put there has the label of that test, which is the cell's own
+    ∷ leaves (run-list (failing (while 1 4 ∷ []) (program 0 21 ∷ []) (trigger 0 1 0 20 ∷ [])) (shows 23 11 46 0 []))
+    (now-2 ∷ record { val = held (pos 2); lab = within-three 0 256 0 } ∷ start-1-1 ∷ start-2 ∷ [])
+    -- a stop of the program itself, after its posting is done, takes nothing back: 21 and three times 4
+    ∷ leaves (run-list (failing (both 4 11 ∷ []) (program 0 21 ∷ []) (trigger 0 1 0 6 ∷ [])) (shows 23 11 13 0 []))
+    (now-2 ∷ now-2 ∷ start-1-1 ∷ start-2 ∷ [])
+    -- what was told stays told: 22, the out's 2, 4, and 12 with twice 4
+    ∷ leaves (run-list (failing (out 1 1 ∷ both 21 4 ∷ []) (program 0 22 ∷ []) (trigger 0 1 0 12 ∷ [])) (shows 23 11 16 8 (told 1 ∷ []))) untouched
+    ∷ []
+
+-- with labels and with none
+abbrev pub Failures : Type 0
+Failures = (labels : Bool) → Leaves labels failures

@@ -8,7 +8,7 @@ use lib.IntN.{pos}
 use lib.ListN.{replicate}
 use Rattle.book.specs.Records.{Book}
 use Rattle.book.specs.Encode.{encode}
-use Rattle.book.specs.Tables.{cell, table-region, may-write, constant, sum, skip, if, put, program, w-file}
+use Rattle.book.specs.Tables.{cell, table-region, may-write, constant, plus, sum, skip, assign, both, if, put, program, trigger, w-file}
 use Rattle.book.specs.declared.Verdict.the-variants as verdicts
 use Rattle.monitor.specs.Labelled.{Label}
 use Rattle.monitor.specs.Run.{Out, stop}
@@ -45,6 +45,31 @@ hidden-put = record {
   triggers = [];
 }
 
+-- The amount of (0,1,0) is copied to (1,0,0), whose label is then place 8; then 2 is put at (0,1,0), whose label is then empty. In the context of
+-- (1,0,0) and (0,2,0) its trigger puts 1 there: 26 of places 8 and 16 against none. The label that the stop leaves there is place 8.
+abbrev pub put-again : Book
+put-again = record {
+  cells = cell 0 1 0 (pos 5) ∷ cell 0 2 0 (pos 7) ∷ [];
+  regions = table-region 0 ∷ table-region 1 ∷ [];
+  rights = may-write 0 0 ∷ may-write 0 1 ∷ [];
+  nodes = constant (pos 0) ∷ constant (pos 1) ∷ constant (pos 2) ∷ sum 0 1 1 0 0 ∷ put 1 0 0 3 ∷ put 0 1 0 2 ∷ both 4 5
+      ∷ sum 1 0 0 0 0 ∷ sum 0 2 2 0 0 ∷ plus 7 8 ∷ put 0 1 0 1 ∷ skip ∷ if 9 10 11 ∷ [];
+  programs = program 0 6 ∷ [];
+  triggers = trigger 0 1 0 12 ∷ [];
+}
+
+-- The amount of (0,2,0) is put at (0,1,0), whose label is then place 16. In its context the trigger assigns a variable: 25 of place 16 against
+-- none. The label that the stop leaves at (0,1,0) is place 8.
+abbrev pub assign-after : Book
+assign-after = record {
+  cells = cell 0 1 0 (pos 5) ∷ cell 0 2 0 (pos 7) ∷ [];
+  regions = table-region 0 ∷ [];
+  rights = may-write 0 0 ∷ [];
+  nodes = constant (pos 0) ∷ constant (pos 1) ∷ constant (pos 2) ∷ sum 0 2 2 0 0 ∷ put 0 1 0 3 ∷ sum 0 1 1 0 0 ∷ assign 5 1 ∷ skip ∷ if 5 6 7 ∷ [];
+  programs = program 0 4 ∷ [];
+  triggers = trigger 0 1 0 8 ∷ [];
+}
+
 pub record ExplainClauses : Type 0 where
   -- places 1 and 2 against places 0 and 1: place 2 alone stands in the one and not in the other
   pub standing : map (Explain.stands (sets 6 3)) (0 ∷ 1 ∷ 2 ∷ 3 ∷ []) ≡ false ∷ false ∷ true ∷ false ∷ []
@@ -69,6 +94,11 @@ pub record ExplainClauses : Type 0 where
   -- 26: owner 2's place is tested, and is not in the cell's label
   pub put-call : (Explain.explain-call (encode hidden-put) 100 (lent 512 8 4096 16) .explanation ≡ named 16 1)
       × (Explain.explain-call (encode hidden-put) 100 (lent 512 8 4096 16) .result .answer ≡ Stopped 26 4 13 0)
+  -- inside a trigger's body the sets are those before the taking back: both, 11, 4, the if with its test 18, and 4; 11, 9 and 2
+  pub put-again-call : (Explain.explain-call (encode put-again) 100 (lent 512 8 4096 16) .explanation ≡ named 8 2)
+      × (Explain.explain-call (encode put-again) 100 (lent 512 8 4096 16) .result .answer ≡ Stopped 26 10 38 0)
+  pub assign-after-call : (Explain.explain-call (encode assign-after) 100 (lent 512 8 4096 16) .explanation ≡ named 16 1)
+      × (Explain.explain-call (encode assign-after) 100 (lent 512 8 4096 16) .result .answer ≡ Stopped 25 6 22 0)
   pub refused-call : (Explain.explain-call [] 100 (lent 512 8 4096 16) .explanation ≡ record { place = none; count = 0 })
       × (Explain.explain-call [] 100 (lent 512 8 4096 16) .result ≡ record { answer = Refused 2 0; memory = lent 512 8 4096 16 })
   -- refused for its lent memory, the book that would stop with 27 is not explained

@@ -1,17 +1,19 @@
 -- What each rule gives, at its limits: the clauses of Rules.antt one by one, with stand-ins for a node's children.
 use mathlib.Core.Path.{_≡_}
 use mathlib.Core.List.{List, [], _∷_, map}
-use mathlib.Core.Bool.{true, false, cond}
+use mathlib.Core.Bool.{Bool, true, false, not, cond}
 use Prim.Native.Nat.{ℕ, _+_, _%_, _^_}
 use lib.Dec.{eqb}
 use lib.IntN.{ℤ, pos, negsuc}
+use lib.ListN.{replicate}
 use Rattle.book.specs.Records.{NodeRecord}
 use Rattle.book.specs.Tables.{trigger}
 use Rattle.monitor.specs.Labelled.{Lab, lit}
-use Rattle.monitor.specs.Run.{Cell, held, absent, State, said, changed, Out, done, M, with-cells}
+use Rattle.monitor.specs.Run.{Cell, held, absent, State, said, changed, Out, done, M, next, plainly, need, update, with-cells}
 use Rattle.monitor.specs.Rules
 use Rattle.monitor.specs.Syntax as syntax
 use Rattle.monitor.specs.Samples.{went, halted, ending, final, counts, labelled, eight, key-of, sample-cells, sample, having, small-book, giving, running, here, office}
+use Rattle.monitor.specs.RunClauses.{sets}
 
 -- ---- values for the clauses
 
@@ -51,10 +53,42 @@ some-cells = held (pos 3) ∷ absent ∷ held (pos 9) ∷ held (negsuc 4) ∷ he
 
 -- a command on node 9, with stand-ins for its children, with labels and without
 abbrev pub does : Rules.Env → syntax.Cmd → State → Out (Unit {0})
-does e c = Rules.command small-book true giving running e 9 c
+does e c = Rules.command small-book Rules.monitored giving running e 9 c
 
 abbrev pub does-unlabelled : Rules.Env → syntax.Cmd → State → Out (Unit {0})
-does-unlabelled e c = Rules.command small-book false giving running e 9 c
+does-unlabelled e c = Rules.command small-book (record { labels = false; undoes = true }) giving running e 9 c
+
+-- the modes: the entry's run, the rule before Change 2, and the run with no labels
+abbrev pub modes : List Rules.Mode
+modes = Rules.monitored ∷ Rules.standing ∷ record { labels = false; undoes = true } ∷ []
+
+-- a program's own command, whose writes fire all triggers
+abbrev pub in-program : ℕ → ℕ → Rules.Env
+in-program word user = record { ctx = word ∷ []; user = user; above = 0 }
+
+abbrev pub own-command : Rules.Env
+own-command = in-program 16 3
+
+-- a body writes its number at cells 6 and 10, clears the cell of its number, and tells as `running` does; where f holds, it then stops
+abbrev pub posting-body : (ℕ → Bool) → Rules.Env → ℕ → M (Unit {0})
+posting-body f e n = λ s.
+    next (running e n (with-cells (update (update (update (s .cells) 6 (labelled (held (pos n)) 1)) 10 (labelled (held (pos n)) 1)) n (labelled absent 1)) s))
+    (λ a. need (record { passes = not (f n); compared = sets 8 2 }) 25 n)
+
+-- a command with such bodies: all but 40 stop, or none does
+abbrev pub failing : Rules.Env → syntax.Cmd → Rules.Mode → Out (Unit {0})
+failing e c mode = Rules.command small-book mode giving (posting-body (λ n. not (eqb n 40))) e 9 c sample
+
+abbrev pub passing : Rules.Env → syntax.Cmd → Rules.Mode → Out (Unit {0})
+passing e c mode = Rules.command small-book mode giving (posting-body (λ n. false)) e 9 c sample
+
+-- a command whose second child stops with 22
+abbrev pub key-stops : syntax.Cmd → Out (Unit {0})
+key-stops c = Rules.command small-book Rules.monitored (λ n s. next (need (plainly (not (eqb n 2))) 22 n s) (λ a. giving n)) running own-command 9 c sample
+
+-- the cells of these places as a command left them
+abbrev pub left-at : List ℕ → Out (Unit {0}) → List (Lab Cell)
+left-at places o = map (final o .cells) places
 
 -- in another context, by another user
 abbrev pub in-context : ℕ → ℕ → Rules.Env
@@ -199,6 +233,53 @@ pub record RuleClauses : Type 0 where
   -- 22: the cell is absent and has context plus key label; the trigger of event 2 runs
   pub clears : (ending (does here (syntax.clear 0 1 2) sample) ≡ went (said 1 (pos 100) ∷ said 2 (pos 99) ∷ changed 22 7 3 ∷ said 42 (pos 98) ∷ []) tt)
       × (final (does here (syntax.clear 0 1 2) sample) .cells 10 ≡ record { val = absent; lab = eight 22 })
+  -- ---- what a stop inside a trigger's body takes back
+  -- The program's own put: body 40 is done, body 41 stops. In each mode the same is told, by the same stop, at the same cost
+  pub puts-undone : map (λ mode. ending (failing own-command (syntax.put 0 1 2 3) mode)) modes
+      ≡ replicate 3 (halted (said 1 (pos 100) ∷ said 2 (pos 99) ∷ said 3 (pos 98) ∷ changed 22 5 1 ∷ said 40 (pos 97) ∷ changed 22 6 2 ∷ said 41 (pos 96) ∷ []) 25 41 (8 ∷ []) (2 ∷ []))
+  -- the cells of both bodies and of the put itself are as before the put, but by the rule before Change 2
+  pub puts-undone-cells : map (λ mode. left-at (6 ∷ 10 ∷ 40 ∷ 41 ∷ []) (failing own-command (syntax.put 0 1 2 3) mode)) modes
+      ≡ (labelled absent 64 ∷ labelled (held (pos 10)) 1046 ∷ labelled (held (pos 40)) (2 ^ 40) ∷ labelled (held (pos 41)) (2 ^ 41) ∷ [])
+      ∷ (labelled (held (pos 41)) 1 ∷ labelled (held (pos 41)) 1 ∷ labelled absent 1 ∷ labelled absent 1 ∷ [])
+      ∷ (labelled absent 64 ∷ labelled (held (pos 10)) 1046 ∷ labelled (held (pos 40)) (2 ^ 40) ∷ labelled (held (pos 41)) (2 ^ 41) ∷ []) ∷ []
+  pub puts-undone-left : map (λ mode. counts (final (failing own-command (syntax.put 0 1 2 3) mode))) modes ≡ replicate 3 (95 ∷ 5 ∷ [])
+  -- a put in a trigger's body, which fires triggers from 1 on, takes nothing back by itself
+  pub puts-in-body : (map (λ mode. ending (failing here (syntax.put 0 1 2 3) mode)) modes
+      ≡ replicate 3 (halted (said 1 (pos 100) ∷ said 2 (pos 99) ∷ said 3 (pos 98) ∷ changed 22 6 2 ∷ said 41 (pos 97) ∷ []) 25 41 (8 ∷ []) (2 ∷ [])))
+      × (map (λ mode. left-at (6 ∷ 10 ∷ 40 ∷ 41 ∷ []) (failing here (syntax.put 0 1 2 3) mode)) modes
+      ≡ replicate 3 (labelled (held (pos 41)) 1 ∷ labelled (held (pos 41)) 1 ∷ labelled (held (pos 40)) (2 ^ 40) ∷ labelled absent 1 ∷ []))
+  -- where all bodies are done, all that was written stays
+  pub puts-done : (map (λ mode. ending (passing own-command (syntax.put 0 1 2 3) mode)) modes
+      ≡ replicate 3 (went (said 1 (pos 100) ∷ said 2 (pos 99) ∷ said 3 (pos 98) ∷ changed 22 5 1 ∷ said 40 (pos 97) ∷ changed 22 6 2 ∷ said 41 (pos 96) ∷ changed 22 2 5 ∷ said 44 (pos 95) ∷ []) tt))
+      × (map (λ mode. left-at (6 ∷ 10 ∷ 40 ∷ 41 ∷ 44 ∷ []) (passing own-command (syntax.put 0 1 2 3) mode)) modes
+      ≡ replicate 3 (labelled (held (pos 44)) 1 ∷ labelled (held (pos 44)) 1 ∷ labelled absent 1 ∷ labelled absent 1 ∷ labelled absent 1 ∷ []))
+  -- a stop before the triggers, on the put by 23, 24 and 26 or in its key, finds nothing written
+  pub puts-before : (ending (failing own-command (syntax.put 0 8 2 3) Rules.monitored) ∷ ending (failing (in-program 16 4) (syntax.put 0 1 2 3) Rules.monitored)
+      ∷ ending (failing (in-program 32 3) (syntax.put 0 1 2 3) Rules.monitored) ∷ ending (key-stops (syntax.put 0 1 2 3)) ∷ []
+      ≡ halted (said 8 (pos 100) ∷ said 2 (pos 99) ∷ said 3 (pos 98) ∷ []) 23 9 (eight 0) (eight 0) ∷ halted (said 1 (pos 100) ∷ said 2 (pos 99) ∷ said 3 (pos 98) ∷ []) 24 9 (eight 0) (eight 0)
+      ∷ halted (said 1 (pos 100) ∷ said 2 (pos 99) ∷ said 3 (pos 98) ∷ []) 26 9 (38 ∷ []) (1046 ∷ []) ∷ halted (said 1 (pos 100) ∷ []) 22 2 (eight 0) (eight 0) ∷ [])
+      × (map (left-at (6 ∷ 10 ∷ []))
+      (failing own-command (syntax.put 0 8 2 3) Rules.monitored ∷ failing (in-program 16 4) (syntax.put 0 1 2 3) Rules.monitored ∷ failing (in-program 32 3) (syntax.put 0 1 2 3) Rules.monitored ∷ key-stops (syntax.put 0 1 2 3) ∷ [])
+      ≡ replicate 4 (labelled absent 64 ∷ labelled (held (pos 10)) 1046 ∷ []))
+  -- the same of a clear, whose trigger has body 42
+  pub clears-undone : (map (λ mode. ending (failing own-command (syntax.clear 0 1 2) mode)) modes
+      ≡ replicate 3 (halted (said 1 (pos 100) ∷ said 2 (pos 99) ∷ changed 22 7 3 ∷ said 42 (pos 98) ∷ []) 25 42 (8 ∷ []) (2 ∷ [])))
+      × (map (λ mode. left-at (6 ∷ 10 ∷ 42 ∷ []) (failing own-command (syntax.clear 0 1 2) mode)) modes
+      ≡ (labelled absent 64 ∷ labelled (held (pos 10)) 1046 ∷ labelled (held (pos 42)) (2 ^ 42) ∷ [])
+      ∷ (labelled (held (pos 42)) 1 ∷ labelled (held (pos 42)) 1 ∷ labelled absent 1 ∷ [])
+      ∷ (labelled absent 64 ∷ labelled (held (pos 10)) 1046 ∷ labelled (held (pos 42)) (2 ^ 42) ∷ []) ∷ [])
+  pub clears-in-body : (map (λ mode. ending (failing here (syntax.clear 0 1 2) mode)) modes
+      ≡ replicate 3 (halted (said 1 (pos 100) ∷ said 2 (pos 99) ∷ changed 22 7 3 ∷ said 42 (pos 98) ∷ []) 25 42 (8 ∷ []) (2 ∷ [])))
+      × (map (λ mode. left-at (6 ∷ 10 ∷ 42 ∷ []) (failing here (syntax.clear 0 1 2) mode)) modes
+      ≡ replicate 3 (labelled (held (pos 42)) 1 ∷ labelled (held (pos 42)) 1 ∷ labelled absent 1 ∷ []))
+  pub clears-done : (map (λ mode. ending (passing own-command (syntax.clear 0 1 2) mode)) modes
+      ≡ replicate 3 (went (said 1 (pos 100) ∷ said 2 (pos 99) ∷ changed 22 7 3 ∷ said 42 (pos 98) ∷ []) tt))
+      × (map (λ mode. left-at (6 ∷ 10 ∷ 42 ∷ []) (passing own-command (syntax.clear 0 1 2) mode)) modes
+      ≡ replicate 3 (labelled (held (pos 42)) 1 ∷ labelled (held (pos 42)) 1 ∷ labelled absent 1 ∷ []))
+  pub clears-before : (ending (failing (in-program 16 4) (syntax.clear 0 1 2) Rules.monitored) ∷ ending (key-stops (syntax.clear 0 1 2)) ∷ []
+      ≡ halted (said 1 (pos 100) ∷ said 2 (pos 99) ∷ []) 24 9 (eight 0) (eight 0) ∷ halted (said 1 (pos 100) ∷ []) 22 2 (eight 0) (eight 0) ∷ [])
+      × (map (left-at (6 ∷ 10 ∷ [])) (failing (in-program 16 4) (syntax.clear 0 1 2) Rules.monitored ∷ key-stops (syntax.clear 0 1 2) ∷ [])
+      ≡ replicate 2 (labelled absent 64 ∷ labelled (held (pos 10)) 1046 ∷ []))
   -- 23: user 2 may read places 2 and 10, and places 4 and 5 are public; place 6 is neither
   pub tells : ending (does here (syntax.out 2 2) sample) ≡ went (said 2 (pos 100) ∷ said 2 (pos 2) ∷ []) tt
   pub tells-not : ending (does here (syntax.out 2 6) sample) ≡ halted (said 6 (pos 100) ∷ []) 27 9 (80 ∷ []) (eight 1076)
@@ -229,9 +310,9 @@ pub record RuleClauses : Type 0 where
   -- ---- nodes and programs
   pub costs : map (Rules.cost-at small-book) (0 ∷ 1 ∷ 2 ∷ []) ≡ 1 ∷ 4 ∷ 1 ∷ []
   -- with no fuel, 21 on the node; else its cost is paid, its children run with less fuel, and its rule is applied
-  pub out-of-fuel : (ending (Rules.eval small-book 0 1 sample) ≡ halted [] 21 1 (eight 0) (eight 0)) × (ending (Rules.exec small-book true 0 here 2 sample) ≡ halted [] 21 2 (eight 0) (eight 0))
+  pub out-of-fuel : (ending (Rules.eval small-book 0 1 sample) ≡ halted [] 21 1 (eight 0) (eight 0)) × (ending (Rules.exec small-book Rules.monitored 0 here 2 sample) ≡ halted [] 21 2 (eight 0) (eight 0))
   pub evaluates : (ending (Rules.eval small-book 1 0 sample) ≡ went [] (lit (pos 7))) × (counts (final (Rules.eval small-book 1 0 sample)) ≡ 99 ∷ 5 ∷ [])
   pub evaluates-children : (ending (Rules.eval small-book 1 1 sample) ≡ halted [] 21 0 (eight 0) (eight 0)) × (counts (final (Rules.eval small-book 1 1 sample)) ≡ 96 ∷ 5 ∷ [])
   pub evaluates-not : ending (Rules.eval small-book 9 1 (having 3 5)) ≡ halted [] 21 1 (eight 0) (eight 0)
-  pub executes : (ending (Rules.exec small-book true 1 here 2 sample) ≡ went [] tt) × (counts (final (Rules.exec small-book true 1 here 2 sample)) ≡ 99 ∷ 5 ∷ [])
-  pub executes-not : ending (Rules.exec small-book true 9 here 2 (having 0 5)) ≡ halted [] 21 2 (eight 0) (eight 0)
+  pub executes : (ending (Rules.exec small-book Rules.monitored 1 here 2 sample) ≡ went [] tt) × (counts (final (Rules.exec small-book Rules.monitored 1 here 2 sample)) ≡ 99 ∷ 5 ∷ [])
+  pub executes-not : ending (Rules.exec small-book Rules.monitored 9 here 2 (having 0 5)) ≡ halted [] 21 2 (eight 0) (eight 0)

@@ -16,7 +16,7 @@ use Rattle.book.specs.Kinds.{cost-of}
 use Rattle.book.specs.Refusals.{no-region, no-trigger, node-at, is-zero}
 use Rattle.book.specs.Start.{public-set}
 use Rattle.monitor.specs.Labelled.{Label, bottom, Lab, lit, lift, lift2, via, under}
-use Rattle.monitor.specs.Run.{Cell, held, absent, Rights, State, said, changed, M, stop, no-sets, _>>=_, _>>_, ret, look, each, when, plainly, inside, need, update, pay, set-var, set-cell, tell, sixteen, own}
+use Rattle.monitor.specs.Run.{Cell, held, absent, Rights, State, said, changed, M, stop, no-sets, _>>=_, _>>_, ret, look, each, when, plainly, inside, need, update, pay, set-var, set-cell, tell, sixteen, own, undoing}
 use Rattle.monitor.specs.Syntax.{Exp, const, var, add, minus, equal, less, query, Cmd, skip, assign, seq, branch, while, put, clear, out, grant, revoke, raise, exp-of, cmd-of}
 
 -- ---- expressions
@@ -146,6 +146,19 @@ expr ev i (query kind p a b c d) = do
 
 -- ---- commands
 
+-- how a run is made: whether it makes the tests of labels, and whether a stop inside a trigger's body takes back the posting that began it
+pub record Mode : Type 0 where
+  pub labels : Bool
+  pub undoes : Bool
+
+-- the run of the entry
+abbrev pub monitored : Mode
+monitored = record { labels = true; undoes = true }
+
+-- the same but that what a posting wrote stands, wherever the run stops: the rule before Change 2, which no entry follows
+abbrev pub standing : Mode
+standing = record { labels = true; undoes = false }
+
 -- what a command runs in: the context, the user, and the least number of a trigger that its writes fire
 pub record Env : Type 0 where
   pub ctx : Label
@@ -237,7 +250,16 @@ module _ (book : Book) where
       fire (within-label e k) event (key-place p (k .val)) (k .val) z
 
   -- what a command does, once its own cost is paid; ev and rec run its children
-  module _ (labels : Bool) (ev : ℕ → M (Lab ℤ)) (rec : Env → ℕ → M (Unit {0})) where
+  module _ (mode : Mode) (ev : ℕ → M (Lab ℤ)) (rec : Env → ℕ → M (Unit {0})) where
+    abbrev labels : Bool
+    labels = mode .labels
+
+    -- A stop inside a trigger's body takes back the program's own put or clear that began it: its cell, all cells that its triggers wrote, and
+    -- their labels are as before that command. A command in a trigger's body has numbers above some trigger's, so that none of these is taken
+    -- back by itself. Before the triggers no stop finds a cell written: the whole command may be such a run.
+    abbrev pub taking-back : Env → M (Unit {0}) → M (Unit {0})
+    taking-back e m = undoing (mode .undoes && eqb (e .above) 0) m
+
     unfoldable pub command : Env → ℕ → Cmd → M (Unit {0})
     -- 16 skip
     command e i skip = ret tt
@@ -259,16 +281,16 @@ module _ (book : Book) where
       choose (x .val) (do rec (within-label e x) b; rec (within-label e x) i) (ret tt)
     -- 21 put amount c at table p, owner a, line b. Its four parts stand in `write-cell`: the tests of key and right, 23 and 24, and the new
     -- label in `posting`; the test of the old label, 26, with the write itself in `set-cell` (Run.antt); the triggers in `fire`
-    command e i (put p a b c) = do
+    command e i (put p a b c) = taking-back e (do
       x ← ev a
       y ← ev b
       z ← ev c
-      write-cell labels rec e i 1 p (key x y) (lift held z)
+      write-cell labels rec e i 1 p (key x y) (lift held z))
     -- 22 clear that cell
-    command e i (clear p a b) = do
+    command e i (clear p a b) = taking-back e (do
       x ← ev a
       y ← ev b
-      write-cell labels rec e i 2 p (key x y) (lit absent)
+      write-cell labels rec e i 2 p (key x y) (lit absent))
     -- 23 out a to user p; 27: value label plus context within the user's read set, in which the public set counts
     command e i (out p a) = do
       x ← ev a
@@ -298,14 +320,14 @@ module _ (book : Book) where
   eval zero i = λ s. stop [] (record { number = 21; node = i; compared = no-sets }) s
   eval (suc fuel) i = pay (cost-at i) i >> expr (eval fuel) i (exp-of (node-at book i))
 
-  unfoldable pub exec : Bool → ℕ → Env → ℕ → M (Unit {0})
-  exec labels zero e i = λ s. stop [] (record { number = 21; node = i; compared = no-sets }) s
-  exec labels (suc fuel) e i = pay (cost-at i) i >> command labels (eval fuel) (exec labels fuel) e i (cmd-of (node-at book i))
+  unfoldable pub exec : Mode → ℕ → Env → ℕ → M (Unit {0})
+  exec mode zero e i = λ s. stop [] (record { number = 21; node = i; compared = no-sets }) s
+  exec mode (suc fuel) e i = pay (cost-at i) i >> command mode (eval fuel) (exec mode fuel) e i (cmd-of (node-at book i))
 
   -- a program: sixteen variables 0 of empty label, and the empty context
-  unfoldable pub program : Bool → ℕ → ProgramRecord → M (Unit {0})
-  program labels fuel p = own (sixteen (lit (pos 0))) (exec labels fuel (record { ctx = bottom; user = p .user; above = 0 }) (p .root))
+  unfoldable pub program : Mode → ℕ → ProgramRecord → M (Unit {0})
+  program mode fuel p = own (sixteen (lit (pos 0))) (exec mode fuel (record { ctx = bottom; user = p .user; above = 0 }) (p .root))
 
   -- programs follow one another; a stop ends the whole run
-  unfoldable pub run : Bool → ℕ → M (Unit {0})
-  run labels fuel = each (book .programs) (program labels fuel)
+  unfoldable pub run : Mode → ℕ → M (Unit {0})
+  run mode fuel = each (book .programs) (program mode fuel)

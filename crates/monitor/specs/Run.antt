@@ -169,3 +169,14 @@ restore v (stop t h s) = stop t h (with-vars v s)
 
 unfoldable pub own : (ℕ → Lab ℤ) → M (Unit {0}) → M (Unit {0})
 own v m = λ s. restore (s .vars) (m (with-vars v s))
+
+-- ---- what a stop takes back
+
+-- the end of a run whose cells come back if it stopped; the trace, the cost and all else that the stop leaves stay
+unfoldable pub taken-back : (ℕ → Lab Cell) → Out (Unit {0}) → Out (Unit {0})
+taken-back c (done t a s) = done t a s
+taken-back c (stop t h s) = stop t h (with-cells c s)
+
+-- where x holds, a run whose cells come back if it stops: each cell, present or absent, with its label, as the run found it
+unfoldable pub undoing : Bool → M (Unit {0}) → M (Unit {0})
+undoing x m = λ s. elim x [ true ↦ taken-back (s .cells) (m s) | false ↦ m s ]

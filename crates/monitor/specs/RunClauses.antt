@@ -5,7 +5,7 @@ use mathlib.Core.Bool.{true, false}
 use Prim.Native.Nat.{ℕ, _+_}
 use lib.IntN.{pos, negsuc, _-ℤ_}
 use Rattle.monitor.specs.Labelled.{lit, lift, lift2, via, under}
-use Rattle.monitor.specs.Run.{held, absent, Rights, said, done, stop, M, next, each, when, about-labels, Compared, Test, plainly, inside, guard, need, update, spend, with-vars, with-cells, recorded, pay, set-var, set-cell, tell, sixteen, own}
+use Rattle.monitor.specs.Run.{held, absent, Rights, State, said, done, stop, M, next, _>>_, each, when, about-labels, Compared, Test, plainly, inside, guard, need, update, spend, with-vars, with-cells, recorded, pay, set-var, set-cell, tell, sixteen, own, taken-back, undoing}
 use Rattle.monitor.specs.Samples.{went, halted, ending, final, counts, labelled, eight, sample, having}
 
 -- two sets of one word
@@ -35,6 +35,20 @@ never = record { passes = false; compared = sets 8 2 }
 -- rights in which user u may read u, and write nothing
 abbrev pub other-rights : Rights → Rights
 other-rights r = record { read = λ u. u ∷ []; write = λ u. [] }
+
+-- writes cell 6, which is absent, and cell 10 twice; sets variable 3, tells a record that changes rights, and uses up 1
+abbrev pub writing : M (Unit {0})
+writing =
+    set-cell true 9 [] 10 (labelled (held (pos 1)) 1) >> set-cell true 9 [] 6 (labelled (held (pos 2)) 2) >> set-cell true 9 [] 10 (labelled absent 4)
+    >> set-var true 9 [] 3 (λ x. lit (pos 0)) >> tell 9 (said 1 (pos 5)) other-rights >> pay 1 9
+
+-- and then stops
+abbrev pub writing-to-stop : M (Unit {0})
+writing-to-stop = writing >> need never 25 9
+
+-- what it wrote beside cells: what is left of the budget and of the room, its variable, and a right
+abbrev pub Stays : State → Type 0
+Stays s = (counts s ≡ 99 ∷ 4 ∷ []) × (map (s .vars) (2 ∷ 3 ∷ []) ≡ labelled (pos 12) 20 ∷ lit (pos 0) ∷ []) × (s .rights .read 3 ≡ 3 ∷ [])
 
 pub record RunClauses : Type 0 where
   -- the empty label has eight words, and a literal has it
@@ -115,3 +129,21 @@ pub record RunClauses : Type 0 where
   pub vars-back-left : counts (final (own (λ p. lit (pos 3)) (telling 1) sample)) ≡ 99 ∷ 5 ∷ []
   pub vars-back-stopped : (final (own (λ p. lit (pos 3)) (need never 25 9) sample) .vars 2 ≡ labelled (pos 12) 20)
       × (ending (own (λ p. lit (pos 3)) (need never 25 9) sample) ≡ halted [] 25 9 (8 ∷ []) (2 ∷ []))
+  -- cells that come back: of a run that is done none
+  pub done-stays : (ending (taken-back (λ q. lit absent) (writing sample)) ≡ went (said 1 (pos 5) ∷ []) tt) × Stays (final (taken-back (λ q. lit absent) (writing sample)))
+      × (map (final (taken-back (λ q. lit absent) (writing sample)) .cells) (6 ∷ 9 ∷ 10 ∷ []) ≡ labelled (held (pos 2)) 2 ∷ labelled (held (pos 9)) 512 ∷ labelled absent 4 ∷ [])
+  -- of one that stopped all, and nothing else: its records, its stop with both sets, and the rest of its state stay
+  pub cells-back : map (final (taken-back (λ q. labelled absent q) (writing-to-stop sample)) .cells) (6 ∷ 9 ∷ 10 ∷ []) ≡ labelled absent 6 ∷ labelled absent 9 ∷ labelled absent 10 ∷ []
+  pub stop-stays : (ending (taken-back (λ q. lit absent) (writing-to-stop sample)) ≡ halted (said 1 (pos 5) ∷ []) 25 9 (8 ∷ []) (2 ∷ []))
+      × Stays (final (taken-back (λ q. lit absent) (writing-to-stop sample)))
+  -- a run that takes its cells back: after a stop all are as it found them, present or absent, with their labels; done, it keeps what it wrote
+  pub undone : map (final (undoing true writing-to-stop sample) .cells) (6 ∷ 9 ∷ 10 ∷ []) ≡ labelled absent 64 ∷ labelled (held (pos 9)) 512 ∷ labelled (held (pos 10)) 1046 ∷ []
+  pub undone-else : (ending (undoing true writing-to-stop sample) ≡ halted (said 1 (pos 5) ∷ []) 25 9 (8 ∷ []) (2 ∷ [])) × Stays (final (undoing true writing-to-stop sample))
+  pub undone-done : (ending (undoing true writing sample) ≡ went (said 1 (pos 5) ∷ []) tt) × Stays (final (undoing true writing sample))
+      × (map (final (undoing true writing sample) .cells) (6 ∷ 9 ∷ 10 ∷ []) ≡ labelled (held (pos 2)) 2 ∷ labelled (held (pos 9)) 512 ∷ labelled absent 4 ∷ [])
+  -- as that run found them: what was written before it stays
+  pub undone-from : map (final (next (set-cell true 9 [] 10 (labelled (held (pos 7)) 7) sample) (λ a. undoing true writing-to-stop)) .cells) (6 ∷ 10 ∷ [])
+      ≡ labelled absent 64 ∷ labelled (held (pos 7)) 7 ∷ []
+  -- and where it does not take them back, they stay after a stop too
+  pub not-undone : (map (final (undoing false writing-to-stop sample) .cells) (6 ∷ 9 ∷ 10 ∷ []) ≡ labelled (held (pos 2)) 2 ∷ labelled (held (pos 9)) 512 ∷ labelled absent 4 ∷ [])
+      × (ending (undoing false writing-to-stop sample) ≡ halted (said 1 (pos 5) ∷ []) 25 9 (8 ∷ []) (2 ∷ [])) × Stays (final (undoing false writing-to-stop sample))

@@ -9,7 +9,10 @@ use Rattle.book.specs.Records.{Book}
 use Rattle.book.specs.Refusals.{book-verdict}
 use Rattle.book.specs.declared.Verdict.{Verdict}
 use Rattle.book.specs.declared.Verdict.the-variants as verdicts
+use Rattle.monitor.specs.Labelled.{Lab}
+use Rattle.monitor.specs.Run.{Cell}
 use Rattle.monitor.specs.Call.{Memory, Result, values, run-book, result-of, call, trace-records}
+use Rattle.monitor.specs.Samples.{final}
 use Rattle.monitor.specs.declared.Answer.the-variants.{Refused}
 use Rattle.monitor.specs.declared.Values.{Values}
 
@@ -64,3 +67,20 @@ ran labels z n row = shown (book-answered labels (row .of) (row .budget) (lent z
 -- each row shows what it says, whatever lent memory was filled with
 abbrev pub Shows : {A : Type 0} → (ℤ → ℕ → Row A → Shown) → List (Row A) → Type 0
 Shows {A} given rows = (z : ℤ) (n : ℕ) → map (given z n) rows ≡ map (λ (row : Row A). row .shows) rows
+
+-- ---- rows that say which cells a run leaves
+
+-- a book to run with what that shows, some places, and the cells that its end has there
+pub record Leaving : Type 0 where
+  pub row : Row Book
+  pub places : List ℕ
+  pub cells : List (Lab Cell)
+
+unfoldable pub left : Bool → ℤ → ℕ → Leaving → Shown × List (Lab Cell)
+left labels z n x =
+    let row : Row Book = x .row in
+    (ran labels z n row, map (final (run-book labels (row .of) (row .budget) (row .trace / 8)) .cells) (x .places))
+
+-- each row shows and leaves what it says
+abbrev pub Leaves : Bool → List Leaving → Type 0
+Leaves labels rows = (z : ℤ) (n : ℕ) → map (left labels z n) rows ≡ map (λ (x : Leaving). (x .row .shows, x .cells)) rows

@@ -43,7 +43,13 @@ pub fn i32_at(file: &[u8], at: usize) -> i32
     requires { ⌜ at + 4 ≤ length (now file) ⌝ }
     ensures { λ r. ⌜ r ≡ signed32 (le32 (now (file .entry)) at) ⌝ }
 {
-    let bits = u32_at(file, at);
+    signed(u32_at(file, at))
+}
+
+// The signed number of 32 bits, two's complement.
+pub fn signed(bits: u32) -> i32
+    ensures { λ r. ⌜ r ≡ signed32 bits ⌝ }
+{
     if bits < 2147483648 {
         return bits as i32;
     }

@@ -18,7 +18,7 @@ use Rattle.monitor.specs.Run.{Rights, State, said, Compared, stop, M, _>>=_, _>
 use Rattle.monitor.specs.Syntax.{out, cmd-of}
 use Rattle.monitor.specs.Rules.{command}
 use Rattle.machine.specs.Script.{script-of, Runnable, Node}
-use Rattle.machine.specs.Store.{row-at, public-row, read-row, cells-held, rights-in, used-of, run-numbers, Store, store, state, Lent}
+use Rattle.machine.specs.Store.{row-at, public-row, read-row, cells-held, undo-of, rights-in, used-of, run-numbers, Store, store, state, Lent}
 use Rattle.machine.specs.Promises.{Stops, Compares, Gives, Evaluates, Does, Commands, Who}
 use Rattle.machine.specs.declared.Value.{Value}
 use Rattle.machine.specs.declared.Value.the-variants as value
@@ -113,4 +113,4 @@ module _ (code : List ℕ) (ctx : Label) (n : ℕ) where
             → Ends Done (store (x .amounts) (x .sets) (set run 1 (used-of run + 8))
             (take (used-of run) (x .trace) ++ (part ++ drop (length (x .trace) - used-of run) (drop (used-of run) (x .trace)))))
         out-tells words f put eb = heard (tell-writes n (said (node .p) z) (λ r. r) words f (said-recorded (x .trace) (used-of run) f z put (ep ∙ read .p) eb)
-            (λ i. cells-held (x .amounts) (x .sets)) (λ i. rights-in (x .sets)) (λ i. row-at (x .sets) public-row))
+            (λ i. cells-held (x .amounts) (x .sets)) (λ i. rights-in (x .sets)) (λ i. row-at (x .sets) public-row) (λ i. undo-of (x .amounts) (x .sets)))

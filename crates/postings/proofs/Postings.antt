@@ -11,7 +11,7 @@ use Rattle.places.specs.Sets.{has, within}
 use Rattle.monitor.specs.Labelled.{Label, Lab, under}
 use Rattle.monitor.specs.Run.{Cell, State, no-sets, about-labels, stop, _>>_, plainly, inside, need, update, set-cell}
 use Rattle.monitor.specs.Rules.{Key, key-place, in-table, posting}
-use Rattle.machine.specs.Store.{row-at, public-row, write-row, label-row, cells-held, rights-in, left-of, used-of, store, state}
+use Rattle.machine.specs.Store.{row-at, public-row, write-row, label-row, cells-held, undo-of, rights-in, left-of, used-of, store, state}
 use Rattle.machine.specs.Promises.{Stops, Compares, ended, Does}
 use Rattle.machine.specs.Writes.{posted-end, Posts}
 use Rattle.machine.specs.declared.Outcome.the-variants.{Stopped}
@@ -80,10 +80,10 @@ module _ (n : ℕ) (ctx : Label) (user table : ℕ) (k : Key) (z : Lab Cell) (am
 
       pub posts : {q : ℕ} {amounts' : List ℤ} {sets' : List (List ℕ)} → within ctx (row-at sets (label-row + place)) ≡ true → q ≡ place → q < 512
           → cells-held amounts' sets' ≡ update (cells-held amounts sets) place (under ctx z) → rights-in sets' ≡ rights-in sets
-          → row-at sets' public-row ≡ row-at sets public-row → Posting (posted.At q) amounts' sets' run
+          → row-at sets' public-row ≡ row-at sets public-row → undo-of amounts' sets' ≡ undo-of amounts sets → Posting (posted.At q) amounts' sets' run
       unfolding posted-end ended set-cell cells-held
-      posts {q} {amounts'} {sets'} f at below stored rights public = record {
-        does = λ vars trace u. quietly u (le-refl (left-of run)) refl public (λ fuel _. allowed vars trace
+      posts {q} {amounts'} {sets'} f at below stored rights public undo = record {
+        does = λ vars trace u. quietly u (le-refl (left-of run)) refl public undo (λ fuel _. allowed vars trace
             ∙ guard-true (λ s. inside true ctx (s .cells place .lab)) 26 n _ (before vars trace) f ∙ rw (stored, rights));
         place-is = λ p e. cc;
         place-inside = λ p e. let same : p ≡ q = cc in omega arith;

@@ -11,7 +11,7 @@ ghost use Rattle.places.specs.Sets.{union};
 ghost use Rattle.monitor.specs.Run.{update};
 ghost use Rattle.monitor.specs.Labelled.{Label};
 ghost use Rattle.monitor.specs.Rules.{key-place, in-table};
-ghost use Rattle.machine.specs.Store.{cells-held, rights-in, row-at, public-row, cell};
+ghost use Rattle.machine.specs.Store.{cells-held, undo-of, rights-in, row-at, public-row, cell};
 ghost use Rattle.machine.specs.Promises.{Stops};
 ghost use Rattle.machine.specs.Writes.{key-of, key-in, cell-in, Posts};
 
@@ -52,7 +52,7 @@ fn marked(event: u8, word: u64, bit: u64) -> u64
     word ^ (word & bit)
 }
 
-// The cell at `place` becomes an amount, or absent, with a label. The two slices tell the proof how long the arrays are.
+// The cell at `place` becomes an amount, or absent, with a label; as it was it is kept. The two slices tell the proof how long the arrays are.
 fn store_cell(
     amounts: &mut [i32; 512],
     sets: &mut Sets,
@@ -65,8 +65,10 @@ fn store_cell(
     ensures { λ _. ⌜ cells-held (now (amounts .exit)) (now (sets .exit))
         ≡ update (cells-held (now (amounts .entry)) (now (sets .entry))) place (record { val = cell event amount; lab = label }) ⌝ }
     ensures { λ _. ⌜ (rights-in (now (sets .exit)) ≡ rights-in (now (sets .entry)))
-        × (row-at (now (sets .exit)) public-row ≡ row-at (now (sets .entry)) public-row) ⌝ }
+        × (row-at (now (sets .exit)) public-row ≡ row-at (now (sets .entry)) public-row)
+        × (undo-of (now (amounts .exit)) (now (sets .exit)) ≡ undo-of (now (amounts .entry)) (now (sets .entry))) ⌝ }
 {
+    undo::keep(amounts, sets, place);
     let all_amounts: &[i32] = amounts;
     let all_sets: &[[u64; 8]] = sets;
     let present = sets[machine::PRESENT];

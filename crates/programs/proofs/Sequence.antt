@@ -1,6 +1,7 @@
 -- Programs one after another, each with variables of its own. Assumes nothing.
 use mathlib.Core.Path.{_≡_, sym, _∙_}
 use mathlib.Core.List.{List, []}
+use mathlib.Core.Bool.{true}
 use Prim.Native.Nat.{ℕ, _+_, _≤_, _<_}
 use native.Mathlib.Numerals.{add-one}
 use lib.IntN.{ℤ, pos}
@@ -11,12 +12,12 @@ use Rattle.monitor.specs.Labelled.{bottom, Lab, lit}
 use Rattle.monitor.specs.Run.{_>>_, each, own}
 use Rattle.monitor.specs.Rules.{program}
 use Rattle.machine.specs.Script.{script-of}
-use Rattle.machine.specs.Store.{vars-of, Store, Lent}
+use Rattle.machine.specs.Store.{idle, vars-of, Store, Lent}
 use Rattle.machine.specs.Promises.{Does, Enters}
 use Rattle.machine.specs.declared.Outcome.{Outcome}
 use Rattle.machine.specs.declared.Outcome.the-variants.{Done, Stopped}
 use Rattle.machine.proofs.Runs.{does-as, sets-vars, then-stops, then-goes, own-does}
-use Rattle.commands.proofs.Steps.{does-keeps, lent-on}
+use Rattle.commands.proofs.Steps.{does-keeps, lent-on, idle-on}
 use Rattle.commands.proofs.Firing.{sixteen-are}
 use Rattle.programs.specs.Programs.{Program, Programs}
 
@@ -36,6 +37,7 @@ program-does code i u e d vars =
 -- What a run of the programs has come to before program i: what those from i on do from here, all of them do from the start.
 pub record Reached (code : List ℕ) (start now : Store) (i : ℕ) : Type 0 where
   pub lent : Lent code (now .sets) (now .run) (now .trace)
+  pub idles : idle (now .sets) ≡ true
   pub long : length (now .trace) ≡ length (start .trace)
   pub rest : (vars : ℕ → Lab ℤ) {r : Outcome} {x : Store} → Does (Programs code i) vars now r vars x → Does (Programs code 0) vars start r vars x
 
@@ -58,4 +60,4 @@ module _ {code : List ℕ} {start now : Store} {i : ℕ} (reached : Reached code
     pub first-goes : r ≡ Done → Reached code start x (i + 1)
     first-goes e =
         let kept = does-keeps (d (λ p. lit (pos 0))) in
-        record { lent = lent-on (reached .lent) kept; long = kept .same ∙ reached .long; rest = λ vars w. reached .rest vars (does-as first (then-goes (d vars) e w)) }
+        record { lent = lent-on (reached .lent) kept; idles = idle-on (reached .idles) kept; long = kept .same ∙ reached .long; rest = λ vars w. reached .rest vars (does-as first (then-goes (d vars) e w)) }

@@ -3,12 +3,14 @@ use machine::Outcome;
 use machine::Run;
 use machine::Script;
 use machine::Sets;
+ghost use mathlib.Core.Path.{_≡_};
+ghost use mathlib.Core.Bool.{true};
 ghost use Prim.Native.Nat.{ℕ, _<_};
 ghost use lib.IntN.{ℤ};
 ghost use lib.ListN.{length};
 ghost use Rattle.monitor.specs.Labelled.{Lab};
 ghost use Rattle.machine.specs.Script.{script-of};
-ghost use Rattle.machine.specs.Store.{store, Lent};
+ghost use Rattle.machine.specs.Store.{idle, store, Lent};
 ghost use Rattle.machine.specs.Promises.{Does};
 ghost use Rattle.programs.specs.Programs.{Program, Programs};
 
@@ -21,7 +23,7 @@ fn program(
     run: &mut Run,
     trace: &mut [u8],
 ) -> Outcome
-    requires { ⌜ Lent (now code) (now sets) (now run) (now trace) × (i < length (script-of (now code) .programs)) ⌝ }
+    requires { ⌜ Lent (now code) (now sets) (now run) (now trace) × (i < length (script-of (now code) .programs)) × (idle (now sets) ≡ true) ⌝ }
     ensures { λ r. ⌜ ((vars : ℕ → Lab ℤ) → Does (Program (now (code .entry)) i)
         vars (store (now (cells .entry)) (now (sets .entry)) (now (run .entry)) (now (trace .entry))) r
         vars (store (now (cells .exit)) (now (sets .exit)) (now (run .exit)) (now (trace .exit)))) ⌝ }
@@ -54,7 +56,7 @@ pub fn programs(
     run: &mut Run,
     trace: &mut [u8],
 ) -> Outcome
-    requires { ⌜ Lent (now code) (now sets) (now run) (now trace) ⌝ }
+    requires { ⌜ Lent (now code) (now sets) (now run) (now trace) × (idle (now sets) ≡ true) ⌝ }
     ensures { λ r. ⌜ ((vars : ℕ → Lab ℤ) → Does (Programs (now (code .entry)) 0)
         vars (store (now (cells .entry)) (now (sets .entry)) (now (run .entry)) (now (trace .entry))) r
         vars (store (now (cells .exit)) (now (sets .exit)) (now (run .exit)) (now (trace .exit)))) ⌝ }

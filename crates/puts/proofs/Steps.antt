@@ -13,11 +13,11 @@ use Rattle.book.specs.Kinds.{expression}
 use Rattle.book.specs.Refusals.{node-at}
 use Rattle.monitor.specs.Syntax.{put, clear, cmd-of}
 use Rattle.monitor.specs.Labelled.{Label, bottom, Lab, lit, lift, lift2}
-use Rattle.monitor.specs.Run.{Cell, M, next, _>>=_, _>>_}
-use Rattle.monitor.specs.Rules.{Key, key, key-place, posting, within-label, trigger-run, fire, write-cell, command, exec}
+use Rattle.monitor.specs.Run.{Cell, M, next, _>>=_, _>>_, undoing}
+use Rattle.monitor.specs.Rules.{Key, key, key-place, posting, within-label, trigger-run, fire, write-cell, monitored, command, exec}
 use Rattle.machine.specs.Script.{script-of, Sound}
 use Rattle.machine.specs.Store.{cells-held, left-of, used-of, Store, store, cell}
-use Rattle.machine.specs.Promises.{Gives, Evaluates, Does, env, Commands, Who}
+use Rattle.machine.specs.Promises.{Gives, Evaluates, Does, env, Stands, Who}
 use Rattle.machine.specs.Writes.{key-of, posted-end, Posts, key-in, cell-in, Fires}
 use Rattle.machine.specs.declared.Value.{Value}
 use Rattle.machine.specs.declared.Value.the-variants as value
@@ -25,7 +25,7 @@ use Rattle.machine.specs.declared.Outcome.{Outcome}
 use Rattle.machine.specs.declared.Outcome.the-variants.{Stopped}
 use Rattle.machine.specs.declared.Posted.{Posted}
 use Rattle.machine.specs.declared.Posted.the-variants as posted
-use Rattle.machine.proofs.Nodes.{command-is, Child, put-p, put-a, put-b, clear-p, clear-a, clear-b}
+use Rattle.machine.proofs.Nodes.{stands-is, Child, put-p, put-a, put-b, clear-p, clear-a, clear-b}
 use Rattle.machine.proofs.Runs.{after-none, does-as, then-stops, then-goes, value-stops, value-goes}
 use Rattle.puts.specs.Writing.{NewAmount, Writes}
 
@@ -86,7 +86,7 @@ module _ (code : List ℕ) (ctx : Label) (who : Who) (n event : ℕ) where
 
   -- the write of the cell, when key and new amount are known
   writes : ℕ → Lab ℤ → Lab ℤ → Lab ℤ → M (Unit {0})
-  writes fuel x y z = write-cell (script-of code) true (exec (script-of code) true fuel) (env ctx who) n event (node .p) (key x y) (lift (cell event) z)
+  writes fuel x y z = write-cell (script-of code) true (exec (script-of code) monitored fuel) (env ctx who) n event (node .p) (key x y) (lift (cell event) z)
 
   -- the new amount and the write, when the key is known
   amounts : ℕ → Lab ℤ → Lab ℤ → M (Unit {0})
@@ -97,12 +97,12 @@ module _ (code : List ℕ) (ctx : Label) (who : Who) (n event : ℕ) where
   lines fuel x = Evaluates code (node .b) fuel >>= amounts fuel x
 
 post-event : (code : List ℕ) (ctx : Label) (who : Who) (n : ℕ) {event : ℕ} → Event event → node-at (script-of code) n .kind ≡ 20 + event → (fuel : ℕ)
-    → Commands code ctx who n fuel ≡ (Evaluates code (node-at (script-of code) n .a) fuel >>= lines code ctx who n event fuel)
-unfolding command NewAmount lines amounts writes lift lit next
-post-event code ctx who n puts kind fuel = command-is code ctx who n (as-put (node-at (script-of code) n) kind) fuel
+    → Stands code ctx who n fuel ≡ (Evaluates code (node-at (script-of code) n .a) fuel >>= lines code ctx who n event fuel)
+unfolding command undoing NewAmount lines amounts writes lift lit next
+post-event code ctx who n puts kind fuel = stands-is code ctx who n (as-put (node-at (script-of code) n) kind) fuel
 post-event code ctx who n clears kind fuel =
     let x : NodeRecord = node-at (script-of code) n in
-    command-is code ctx who n (as-clear x kind) fuel
+    stands-is code ctx who n (as-clear x kind) fuel
     ∙ ap (λ (k : Lab ℤ → Lab ℤ → M (Unit {0})). Evaluates code (x .a) fuel >>= λ o. Evaluates code (x .b) fuel >>= k o)
     (λ i o l s. sym (after-none (writes code ctx who n 2 fuel o l (lit (pos 0)) s)) i)
 
@@ -115,7 +115,7 @@ module _ (code : List ℕ) (ctx : Label) (who : Who) (n event : ℕ) (kind : nod
 
   -- the key or the amount has no value
   lacks : {run' : List ℕ} {inner label : Label} {key : List ℤ} → left-of run' ≤ left-of run → used-of run' ≡ used-of run
-      → ((trace : List ℕ) → used-of run ≤ length trace → Does (Commands code ctx who n) vars (store cells sets run trace) Stopped vars (store cells sets run' trace))
+      → ((trace : List ℕ) → used-of run ≤ length trace → Does (Stands code ctx who n) vars (store cells sets run trace) Stopped vars (store cells sets run' trace))
       → Writing posted.Stopped cells sets run' inner label key
   lacks w e d = record {
     own = bottom;
@@ -126,6 +126,7 @@ module _ (code : List ℕ) (ctx : Label) (who : Who) (n event : ℕ) (kind : nod
     within = w;
     used-same = e;
     public-same = refl;
+    undo-same = refl;
   }
     where
       none : {place : ℕ} → posted.Stopped ≡ posted.At place → ⊥
@@ -143,7 +144,7 @@ module _ (code : List ℕ) (ctx : Label) (who : Who) (n event : ℕ) (kind : nod
 
       to-line : (trace : List ℕ) {r : Outcome} {x' : Store}
           → Does (λ fuel. lines code ctx who n event fuel x) vars (store cells sets run₁ trace) r vars x'
-          → Does (Commands code ctx who n) vars (store cells sets run trace) r vars x'
+          → Does (Stands code ctx who n) vars (store cells sets run trace) r vars x'
       to-line trace w = does-as (post-event code ctx who n (event-of event h l) kind) (value-goes d₁ (lines code ctx who n event) owner e₁ w)
 
       pub line-stops : {label : Label} {key : List ℤ} → v₂ ≡ value.Stopped → Writing posted.Stopped cells sets run₂ l₂ label key
@@ -158,7 +159,7 @@ module _ (code : List ℕ) (ctx : Label) (who : Who) (n event : ℕ) (kind : nod
 
         to-amount : (trace : List ℕ) {r : Outcome} {x' : Store}
             → Does (λ fuel. amounts code ctx who n event fuel x y) vars (store cells sets run₂ trace) r vars x'
-            → Does (Commands code ctx who n) vars (store cells sets run trace) r vars x'
+            → Does (Stands code ctx who n) vars (store cells sets run trace) r vars x'
         unfolding lines
         to-amount trace w = to-line trace (value-goes d₂ (λ fuel. amounts code ctx who n event fuel x) line e₂ w)
 
@@ -193,7 +194,7 @@ module _ (code : List ℕ) (ctx : Label) (who : Who) (n event : ℕ) (kind : nod
 
           to-write : (trace : List ℕ) {r : Outcome} {x' : Store}
               → Does (λ fuel. posting true n l₂ (who .user) table k z >> Fires code l₂ (who .above) event (key-place table k) k z fuel) vars (store cells sets run₃ trace) r vars x'
-              → Does (Commands code ctx who n) vars (store cells sets run trace) r vars x'
+              → Does (Stands code ctx who n) vars (store cells sets run trace) r vars x'
           unfolding amounts
           to-write trace w = to-amount trace (value-goes d₃ (λ fuel. writes code ctx who n event fuel x y) amount e₃ (does-as posts-then w))
 
@@ -217,4 +218,5 @@ module _ (code : List ℕ) (ctx : Label) (who : Who) (n event : ℕ) (kind : nod
                 within = omega (arith, d₁ .within, d₂ .within, d₃ .within, l .within);
                 used-same = omega (arith, used-is, l .used-is, l .fits);
                 public-same = l .public-same;
+                undo-same = l .undo-same;
               }

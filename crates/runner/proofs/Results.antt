@@ -15,11 +15,11 @@ use Rattle.book.specs.Start.{start-amounts, start-presence}
 use Rattle.book.specs.declared.Verdict.the-variants.{Accepted}
 use Rattle.monitor.specs.Labelled.{Label, Lab, lit}
 use Rattle.monitor.specs.Run.{Rights, State, Rec, sixteen}
-use Rattle.monitor.specs.Rules.{run}
+use Rattle.monitor.specs.Rules.{monitored, run}
 use Rattle.monitor.specs.Call.{Memory, cells-of, amounts-in, presence-in, labels-in, script, trace-bytes, start-cells, start-rights, start-state, run-book, memory-after, result-of, answered}
 use Rattle.monitor.proofs.Start.{start-beyond, start-label, script-start}
 use Rattle.machine.specs.Script.{script-of, Runnable}
-use Rattle.machine.specs.Store.{row-at, label-row, cells-held, rights-in, used-of, run-numbers, Store, store, state, with-records, Lent}
+use Rattle.machine.specs.Store.{row-at, label-row, cells-held, idle, rights-in, used-of, run-numbers, Store, store, state, with-records, Lent}
 use Rattle.machine.specs.Promises.{ended, Does}
 use Rattle.machine.specs.declared.Outcome.{Outcome}
 use Rattle.machine.specs.declared.Outcome.the-variants.{Done, Stopped}
@@ -68,8 +68,8 @@ module _ (file code : List ℕ) (same : script-of code ≡ script (decode file))
   rights-same = (λ i. record { read = h .read-are i; write = h .write-are i }) ∙ ap start-rights same ∙ script-start b
 
   -- what the programs ask for
-  pub lent-all : Runnable code → (budget : ℕ) (trace : List ℕ) → length trace ≤ 65536 → Lent code sets (begun budget) trace
-  lent-all runs budget trace short = record { runnable = runs; public-is = h .public-is; short = short; room = omega arith }
+  pub lent-all : Runnable code → (budget : ℕ) (trace : List ℕ) → length trace ≤ 65536 → Lent code sets (begun budget) trace × (idle sets ≡ true)
+  lent-all runs budget trace short = (record { runnable = runs; public-is = h .public-is; short = short; room = omega arith }, h .idles)
 
   module _ {budget : ℕ} {amounts' : List ℤ} {sets' : List (List ℕ)} {run' trace' : List ℕ} {r : Outcome} (m : Memory)
       (d : (vars : ℕ → Lab ℤ) → Does (Programs code 0) vars (store amounts sets (begun budget) (m .trace)) r vars (store amounts' sets' run' trace')) where
@@ -81,7 +81,7 @@ module _ (file code : List ℕ) (same : script-of code ≡ script (decode file))
     unfolding run-book run start-state
     runs-book =
         rw (same, cells-same, sub-zero (length (m .trace)))
-        (ap (λ (rights : Rights). run (script b) true budget (record { cells = start-cells b; vars = vars; rights = rights; left = budget; room = length (m .trace) / 8 })) rights-same)
+        (ap (λ (rights : Rights). run (script b) monitored budget (record { cells = start-cells b; vars = vars; rights = rights; left = budget; room = length (m .trace) / 8 })) rights-same)
 
     -- and what they leave, with the cells stored, is what the call leaves
     pub run-gives : {left : List ℤ} {presence labels : List ℕ}

@@ -1,6 +1,7 @@
 -- The script and the sets of a run at its start.
 use mathlib.Core.Path.{_≡_}
 use mathlib.Core.List.{List}
+use mathlib.Core.Bool.{true}
 use Prim.Native.Nat.{ℕ, _+_, _*_, _<_}
 use lib.ListN.{length, take, drop}
 use Rattle.places.specs.Sets.{single}
@@ -11,7 +12,7 @@ use Rattle.book.specs.Layout.{count, section}
 use Rattle.book.specs.Start.{public-set, read-sets, write-sets}
 use Rattle.monitor.specs.Call.{rows}
 use Rattle.machine.specs.Script.{prices-start, held-count}
-use Rattle.machine.specs.Store.{row-at, present-row, public-row, read-row, write-row, label-row, set-rows, users-rows}
+use Rattle.machine.specs.Store.{row-at, present-row, public-row, read-row, write-row, label-row, set-rows, users-rows, idle}
 
 -- the first n bytes are what they were
 pub record Stays (n : ℕ) (old new : List ℕ) : Type 0 where
@@ -28,7 +29,7 @@ Prices code = (kind : ℕ) → kind < 27 → le32 code (prices-start + 4 * kind)
 abbrev pub Counts : List ℕ → List ℕ → Type 0
 Counts file code = (i : ℕ) → i < 5 → held-count code i ≡ count file (i + 1)
 
--- the cells that are present, the rights of the book's records, and for each cell its own place alone
+-- the cells that are present, the rights of the book's records, for each cell its own place alone, and no posting under way
 pub record SetsOf (b : Book) (present : List ℕ) (sets : List (List ℕ)) : Type 0 where
   pub long : length sets ≡ set-rows
   pub present-is : row-at sets present-row ≡ present
@@ -36,3 +37,4 @@ pub record SetsOf (b : Book) (present : List ℕ) (sets : List (List ℕ)) : Typ
   pub read-are : users-rows sets read-row ≡ rows (read-sets b)
   pub write-are : users-rows sets write-row ≡ rows (write-sets b)
   pub labels-are : (place : ℕ) → place < 512 → row-at sets (label-row + place) ≡ single 8 place
+  pub idles : idle sets ≡ true

@@ -10,7 +10,7 @@ ghost use Rattle.book.specs.Refusals.{verdict};
 ghost use Rattle.book.specs.declared.Verdict.the-variants.{Accepted};
 ghost use Rattle.monitor.specs.Call.{script};
 ghost use Rattle.machine.specs.Script.{prices-start, counts-start, script-bytes, script-of, Runnable};
-ghost use Rattle.machine.specs.Store.{row-at, label-row, set-rows};
+ghost use Rattle.machine.specs.Store.{row-at, posting-row, label-row, set-rows};
 ghost use Rattle.start.specs.Start.{Stays, Part, Prices, Counts, SetsOf};
 
 // Copies the records of section `i` of a book to byte `at`; the bytes before stay.
@@ -66,7 +66,8 @@ pub fn copy_script(file: &[u8], code: &mut Script)
 // Makes each cell's label its own place alone: one bit in words that are all 0.
 fn own_labels(sets: &mut Sets)
     requires { ⌜ now sets ≡ replicate set-rows (empty 8) ⌝ }
-    ensures { λ _. ⌜ (length (now (sets .exit)) ≡ set-rows) × ((place : ℕ) → place < 512 → row-at (now (sets .exit)) (label-row + place) ≡ single 8 place) ⌝ }
+    ensures { λ _. ⌜ (length (now (sets .exit)) ≡ set-rows) × ((place : ℕ) → place < 512 → row-at (now (sets .exit)) (label-row + place) ≡ single 8 place)
+        × (row-at (now (sets .exit)) posting-row ≡ empty 8) ⌝ }
 {
     let mut place: usize = 0;
     while place < 512 {

@@ -11,7 +11,7 @@ use Rattle.book.specs.Bytes.{four, bits32}
 use Rattle.monitor.specs.Labelled.{Lab}
 use Rattle.monitor.specs.Run.{Rights, Rec, said, changed, done, plainly, commit, recorded, tell}
 use Rattle.monitor.specs.Call.{record-bytes}
-use Rattle.machine.specs.Store.{row-at, public-row, cells-held, rights-in, left-of, used-of, run-numbers, Store, store, state, room-in, with-records}
+use Rattle.machine.specs.Store.{row-at, public-row, cells-held, undo-of, rights-in, left-of, used-of, run-numbers, Store, store, state, room-in, with-records}
 use Rattle.machine.specs.Promises.{Stops, ended, Does}
 use Rattle.machine.specs.declared.Outcome.{Outcome}
 use Rattle.machine.specs.declared.Outcome.the-variants.{Done, Stopped}
@@ -25,13 +25,14 @@ module _ (n : ℕ) (r : Rec) (f : Rights → Rights) {vars : ℕ → Lab ℤ} {x
   tell-full u h s = rw (s .0) (stops-on u refl (s .1)
       (λ fuel _. guard-false (λ s. plainly (leb 1 (s .room))) 30 n (commit (r ∷ []) (recorded f)) (state vars x) (no-room (x .trace) (used-of (x .run)) h)))
 
-  -- the sets after it have the same cells and the same public set, and the rights that f gives
+  -- the sets after it have the same cells, the same public set and the same to take back, and the rights that f gives
   pub tell-writes : {sets : List (List ℕ)} {trace : List ℕ} → length (x .run) ≡ run-numbers → used-of (x .run) + 8 ≤ length (x .trace)
       → trace ≡ with-records (x .trace) (used-of (x .run)) (r ∷ []) → cells-held (x .amounts) (x .sets) ≡ cells-held (x .amounts) sets
       → f (rights-in (x .sets)) ≡ rights-in sets → row-at sets public-row ≡ row-at (x .sets) public-row
+      → undo-of (x .amounts) sets ≡ undo-of (x .amounts) (x .sets)
       → Does (λ fuel. tell n r f) vars x Done vars (store (x .amounts) sets (set (x .run) 1 (used-of (x .run) + 8)) trace)
   unfolding tell ended
-  tell-writes {sets = sets} {trace = trace} four h et ec ef ep =
+  tell-writes {sets = sets} {trace = trace} four h et ec ef ep eu =
       let used : ℕ = used-of (x .run) in
       let run : List ℕ = set (x .run) 1 (used + 8) in
       let now : used-of run ≡ used + 8 = getD-set-same (x .run) 1 (used + 8) 0 (omega arith) in
@@ -41,7 +42,7 @@ module _ (n : ℕ) (r : Rec) (f : Rights → Rights) {vars : ℕ → Lab ℤ} {x
         records = r ∷ [];
         is = λ fuel _. guard-true (λ s. plainly (leb 1 (s .room))) 30 n (commit (r ∷ []) (recorded f)) (state vars x) (some-room (x .trace) used h)
             ∙ (λ i. done (r ∷ []) tt (record { cells = ec i; vars = vars; rights = ef i; left = sym same i; room = room i }));
-        leaves = record { trace-is = et; used-is = now; fits = omega (arith, now); within = omega (arith, same); public-same = ep };
+        leaves = record { trace-is = et; used-is = now; fits = omega (arith, now); within = omega (arith, same); public-same = ep; undo-same = eu };
       }
 
 -- ---- the bytes, as they stand in the part that is lent on

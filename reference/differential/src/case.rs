@@ -4,9 +4,17 @@ use crate::explainer::{self, Explained, NO_PLACE};
 use crate::proved::{self, Answered, Ran};
 use reference::book::Refusal;
 use reference::generate;
+use reference::places::Places;
 use reference::random::Random;
 use reference::run::{self, Answer, Memory, Tests};
 use reference::writer;
+
+/// How the explained run ended, and whether it took a posting back that had
+/// changed a cell. Only the reference tells the latter.
+pub struct Outcome {
+    pub explained: Explained,
+    pub took_back: bool,
+}
 
 /// Memory for one case after another, for each of the two.
 pub struct Lent {
@@ -30,8 +38,8 @@ impl Lent {
     }
 
     /// Draws the case of a seed and compares load, run, explain and write. Gives
-    /// how the explained run ended, or what differs.
-    pub fn check(&mut self, seed: u64) -> Result<Explained, String> {
+    /// how the run came out, or what differs.
+    pub fn check(&mut self, seed: u64) -> Result<Outcome, String> {
         let mut random = Random::new(seed);
         let file = file(&mut random);
         self.check_load(&mut random, &file)?;
@@ -40,9 +48,9 @@ impl Lent {
         self.soil(&mut random, trace);
         self.check_run(&file, budget)?;
         self.lend();
-        let explained = self.check_explain(&file, budget)?;
+        let outcome = self.check_explain(&file, budget)?;
         self.check_write(&mut random, &file)?;
-        Ok(explained)
+        Ok(outcome)
     }
 
     fn check_run(&mut self, file: &[u8], budget: u32) -> Result<(), String> {
@@ -59,8 +67,10 @@ impl Lent {
         self.compare("run")
     }
 
-    fn check_explain(&mut self, file: &[u8], budget: u32) -> Result<Explained, String> {
-        let expected = explained(run::explain(file, budget, &mut self.expected));
+    fn check_explain(&mut self, file: &[u8], budget: u32) -> Result<Outcome, String> {
+        let expected = run::explain(file, budget, &mut self.expected);
+        let took_back = expected.taken_back != Places::EMPTY;
+        let expected = explained(expected);
         let found = explainer::explain(
             file,
             budget,
@@ -71,7 +81,10 @@ impl Lent {
         );
         same("explain: answer", &expected, &found)?;
         self.compare("explain")?;
-        Ok(found)
+        Ok(Outcome {
+            explained: found,
+            took_back,
+        })
     }
 
     fn check_load(&mut self, random: &mut Random, file: &[u8]) -> Result<(), String> {
@@ -168,7 +181,7 @@ impl Lent {
 
 /// A book's file, of which one in four is damaged.
 fn file(random: &mut Random) -> Vec<u8> {
-    let book = generate::book(random);
+    let book = generate::often_failing(random);
     if random.chance(25) {
         return generate::damaged(random, &book);
     }

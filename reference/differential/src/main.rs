@@ -5,8 +5,8 @@ mod case;
 mod explainer;
 mod proved;
 
-use case::Lent;
-use explainer::{Explained, NO_PLACE};
+use case::{Lent, Outcome};
+use explainer::NO_PLACE;
 use std::collections::BTreeMap;
 use std::env;
 use std::process::ExitCode;
@@ -28,12 +28,16 @@ struct Tally {
     ends: BTreeMap<u32, u64>,
     /// How many explained runs named a place.
     named: u64,
+    /// How many runs took a posting back.
+    took_back: u64,
 }
 
 impl Tally {
-    fn count(&mut self, explained: &Explained) {
+    fn count(&mut self, outcome: &Outcome) {
+        let explained = &outcome.explained;
         *self.ends.entry(explained.number).or_default() += 1;
         self.named += u64::from(explained.place != NO_PLACE);
+        self.took_back += u64::from(outcome.took_back);
     }
 
     fn add(&mut self, other: Tally) {
@@ -41,6 +45,7 @@ impl Tally {
             *self.ends.entry(number).or_default() += count;
         }
         self.named += other.named;
+        self.took_back += other.took_back;
     }
 }
 
@@ -57,12 +62,17 @@ fn main() -> ExitCode {
         }
     };
     match compare(cases, seed) {
-        Some(Tally { ends, named }) => {
+        Some(Tally {
+            ends,
+            named,
+            took_back,
+        }) => {
             println!("{cases} cases from seed {seed} on: no difference");
             for (number, count) in ends {
                 println!("  {count} runs ended with {number}");
             }
             println!("  {named} explained runs named a place");
+            println!("  {took_back} runs took a posting back");
             ExitCode::SUCCESS
         }
         None => ExitCode::FAILURE,
@@ -107,7 +117,7 @@ fn compare_all(seeds: impl Iterator<Item = u64>, failed: &AtomicBool) -> Tally {
             break;
         }
         match lent.check(seed) {
-            Ok(explained) => tally.count(&explained),
+            Ok(outcome) => tally.count(&outcome),
             Err(difference) => {
                 eprintln!("seed {seed}: {difference}");
                 failed.store(true, Ordering::Relaxed);

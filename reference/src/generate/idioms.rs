@@ -201,6 +201,53 @@ impl Script<'_> {
         Some(self.push(kind::PUT, table, [owner, line, amount, 0]))
     }
 
+    /// In a trigger: writes, and then a stop, mostly for some amounts of a cell
+    /// only.
+    pub(super) fn failing_body(&mut self, length: usize) -> u16 {
+        let writes = self.react().unwrap_or_else(|| self.skip());
+        let more = self.block(length, 0);
+        let before = self.then(writes, more);
+        let stop = match self.random.below(6) {
+            0 => self.too_large(),
+            1 => self.outside(),
+            _ => self.leak(),
+        };
+        self.then(before, stop)
+    }
+
+    /// An assignment of an amount that leaves 32 bits.
+    fn too_large(&mut self) -> u16 {
+        let [most, one] = [i32::MAX, 1].map(|k| self.constant(k));
+        let sum = self.operation(kind::ADD, most, one);
+        let variable = self.any_variable();
+        self.assign_value(variable, sum)
+    }
+
+    /// A clear at an owner that there is none of.
+    fn outside(&mut self) -> u16 {
+        let table = self.random.pick(&self.world.spots).table;
+        let [owner, line] = [8, 0].map(|k| self.constant(k).node);
+        self.push(kind::CLEAR, table, [owner, line, 0, 0])
+    }
+
+    /// A put or clear that sets a trigger off, or nothing if there is none.
+    pub(super) fn posting(&mut self) -> u16 {
+        let count = self.world.spots.len();
+        let first = self.random.below(count);
+        let events = [PUT_EVENT, CLEAR_EVENT];
+        let found = (0..2 * count)
+            .map(|step| (events[step / count], (first + step) % count))
+            .find(|&(event, spot)| self.guess.reacts(event, spot));
+        match found {
+            Some((PUT_EVENT, spot)) => {
+                let value = self.expression(1);
+                self.put_value(spot, value)
+            }
+            Some((_, spot)) => self.clear_spot(spot),
+            None => self.skip(),
+        }
+    }
+
     /// A while loop, most often one that ends.
     pub(super) fn repeat(&mut self, depth: usize) -> Option<u16> {
         match self.random.below(12) {

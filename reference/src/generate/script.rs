@@ -92,6 +92,11 @@ impl<'a> Script<'a> {
     /// A whole program, which mostly ends by showing something.
     pub(super) fn program(&mut self, length: usize) -> u16 {
         let mut root = self.block(length, 3);
+        if self.world.failing {
+            let posting = self.posting();
+            let (first, second) = self.random.pick(&[(root, posting), (posting, root)]);
+            root = self.then(first, second);
+        }
         for _ in 0..self.random.below(4) {
             if self.pool.room() == 0 {
                 break;

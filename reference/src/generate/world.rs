@@ -35,10 +35,12 @@ pub(super) struct World {
     pub(super) clients: [u8; 4],
     /// Percent of choices made without regard to the rules.
     pub(super) careless: usize,
+    /// Whether triggers are made to stop the run after they have written cells.
+    pub(super) failing: bool,
 }
 
 impl World {
-    pub(super) fn new(random: &mut Random, size: Size) -> World {
+    pub(super) fn new(random: &mut Random, size: Size, failing: bool) -> World {
         let spots = spots(random);
         let cells = cells(random, size, &spots);
         let regions = regions(random, size, &spots);
@@ -51,6 +53,7 @@ impl World {
             rights: Vec::with_capacity(64),
             clients: clients(random),
             careless: random.weighted(&[(6, 0), (4, 2), (3, 6), (1, 25)]),
+            failing,
         };
         world.add_public(random);
         world.add_reads(random);

@@ -9,6 +9,7 @@ mod labels;
 mod output;
 mod programs;
 mod rights;
+mod taken_back;
 mod triggers;
 mod unlabelled;
 mod writes;

@@ -158,7 +158,7 @@ fn a_trigger_runs_in_the_keys_label() {
     secret_key_write(&mut b, body);
     let (answer, memory) = run_amply(&b.book);
     assert_eq!(stop_of(answer), (26, body));
-    assert_eq!(cell(&memory, 0, 0, B), (Some(9), vec![0]));
+    assert_eq!(cell(&memory, 0, 0, B), (Some(1), vec![0]), "taken back");
     assert_eq!(cell(&memory, 2, 0, 0), (Some(7), vec![]));
 }
 
@@ -363,7 +363,7 @@ fn a_trigger_has_its_own_users_write_rights() {
     let (b, body) = trigger_of_user_5(1);
     let (answer, memory) = run_amply(&b.book);
     assert_eq!(stop_of(answer), (24, body));
-    assert_eq!(cell(&memory, 1, 0, 0), (Some(1), vec![]), "put before");
+    assert_eq!(cell(&memory, 1, 0, 0), (None, vec![64]), "taken back");
     assert_eq!(cell(&memory, 1, 0, 1), (None, vec![65]));
 }
 
@@ -391,7 +391,7 @@ fn a_stop_in_a_trigger_ends_the_run() {
     program(&mut b, &[put, next]);
     let (answer, memory) = run_amply(&b.book);
     assert_eq!(stop_of(answer), (23, bad));
-    assert_eq!(cell(&memory, 1, 0, 0).0, Some(1));
+    assert_eq!(cell(&memory, 1, 0, 0).0, None);
     assert_eq!(cell(&memory, 2, 0, 0).0, None);
     assert_eq!(cell(&memory, 3, 0, 0).0, None);
 }

@@ -1,5 +1,6 @@
 //! What the explained cases met.
 
+use super::commands::reached;
 use reference::book::{kind, Book};
 use reference::run::Answer;
 use reference::run_cases::{Case, ExplainedOutcome, Outcome};
@@ -83,7 +84,7 @@ impl Reasons {
 
 /// Whether the node is in no program but in a trigger's body; and then whether
 /// no program can set off that trigger, so that another trigger has.
-fn in_trigger(book: &Book, node: u16) -> Option<bool> {
+pub fn in_trigger(book: &Book, node: u16) -> Option<bool> {
     let programs: Vec<u16> = book.programs.iter().map(|program| program.root).collect();
     let own = reached(book, programs);
     if own.contains(&node) {
@@ -109,22 +110,4 @@ fn in_trigger(book: &Book, node: u16) -> Option<bool> {
         !writes(trigger.event, region.table)
     });
     Some(nested)
-}
-
-/// The commands that are reached from these.
-fn reached(book: &Book, mut waiting: Vec<u16>) -> BTreeSet<u16> {
-    let mut reached = BTreeSet::new();
-    while let Some(command) = waiting.pop() {
-        if !reached.insert(command) {
-            continue;
-        }
-        let node = book.nodes[usize::from(command)];
-        match node.kind {
-            kind::THEN => waiting.extend([node.a, node.b]),
-            kind::IF => waiting.extend([node.b, node.c]),
-            kind::WHILE => waiting.push(node.b),
-            _ => (),
-        }
-    }
-    reached
 }

@@ -1,7 +1,10 @@
 //! Running generated books in lent memory.
 
+#[path = "../common/commands.rs"]
+mod commands;
 pub mod coverage;
 pub mod pairs;
+pub mod postings;
 pub mod reasons;
 pub mod singles;
 
@@ -9,7 +12,7 @@ use reference::book::Book;
 use reference::notation::list;
 use reference::places::Places;
 use reference::random::Random;
-use reference::run::{explain, run, Answer, Explained, Memory, Tests};
+use reference::run::{carry_out, Answer, Explained, Failed, Memory, Tests};
 
 /// What a call is given beside the book.
 #[derive(Clone, Copy, Debug)]
@@ -102,6 +105,8 @@ pub fn is_for_labels(number: u32) -> bool {
 pub struct Lent {
     pub memory: Memory,
     pub ended: Ended,
+    /// The cells that the last run took back.
+    pub taken_back: Places,
     /// What the trace was filled with before the run.
     junk: u8,
 }
@@ -111,6 +116,7 @@ impl Lent {
         Lent {
             memory: Memory::new(0),
             ended: Ended::default(),
+            taken_back: Places::EMPTY,
             junk: 0,
         }
     }
@@ -122,6 +128,11 @@ impl Lent {
 
     pub fn finished(&self) -> bool {
         self.ended.number == 0
+    }
+
+    /// Whether the last run took a posting back that had changed a cell.
+    pub fn took_back(&self) -> bool {
+        self.taken_back != Places::EMPTY
     }
 
     /// Leaves arbitrary contents, as a caller may.
@@ -145,14 +156,10 @@ impl Lent {
         tests: Tests,
     ) -> Result<(), String> {
         self.soil(random, limits.trace);
-        let explained = match tests {
-            Tests::Labelled => explain(file, limits.budget, &mut self.memory),
-            Tests::Unlabelled => Explained {
-                answer: run(file, limits.budget, &mut self.memory, tests),
-                lacking: Places::EMPTY,
-            },
-        };
+        let (budget, failed) = (limits.budget, Failed::TakenBack);
+        let explained = carry_out(file, budget, &mut self.memory, tests, failed);
         self.ended = Ended::of(&explained)?;
+        self.taken_back = explained.taken_back;
         self.check(book, limits)
             .map_err(|what| format!("{what}\n{}", list(book)))
     }

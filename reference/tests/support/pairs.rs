@@ -27,6 +27,8 @@ pub struct Pairs {
     pub diverged: usize,
     /// Pairs of which a test on labels stopped at least one.
     pub stopped_for_labels: usize,
+    /// Pairs of which at least one took a posting back.
+    pub taken_back: usize,
 }
 
 impl Pairs {
@@ -40,19 +42,25 @@ impl Pairs {
             stopped_with_trace: 0,
             diverged: 0,
             stopped_for_labels: 0,
+            taken_back: 0,
         }
     }
 
     /// Makes and runs the book of this seed, and compares it with others; with
-    /// more of them where a test on labels stops it.
+    /// more of them where a test on labels stops it, or where it takes a posting
+    /// back.
     pub fn check(&mut self, seed: u64) -> Result<(), String> {
         let mut random = Random::new(seed);
-        let book = generate::book(&mut random);
+        let book = generate::often_failing(&mut random);
         let limits = Limits::random(&mut random);
         self.first
             .run(&mut random, &book, &book.encode(), limits, Tests::Labelled)?;
         self.coverage.count(&book, &self.first);
-        let others = if self.first.ended.for_labels() { 3 } else { 1 };
+        let others = match (self.first.took_back(), self.first.ended.for_labels()) {
+            (true, _) => 4,
+            (_, true) => 3,
+            _ => 1,
+        };
         (0..others).try_for_each(|_| self.check_pair(&mut random, &book))
     }
 
@@ -117,6 +125,7 @@ impl Pairs {
         self.diverged += usize::from(finished && one.ended.cost != other.ended.cost);
         let for_labels = one.ended.for_labels() || other.ended.for_labels();
         self.stopped_for_labels += usize::from(for_labels);
+        self.taken_back += usize::from(one.took_back() || other.took_back());
     }
 
     fn report(&self, book: &Book, other: &Book, group: u8, difference: &str) -> String {

@@ -7,7 +7,7 @@ use reference::generate;
 use reference::notation::list;
 use reference::places::Places;
 use reference::random::Random;
-use reference::run::{explain, Explained, Memory};
+use reference::run::{carry_out, explain, Explained, Failed, Memory, Tests};
 
 const BUDGET: u32 = 2_500;
 const TRACE: usize = 2_000;
@@ -25,14 +25,13 @@ pub struct Reasons {
 
 impl Reasons {
     pub fn check(&mut self, seed: u64) -> Result<(), String> {
-        let book = generate::book(&mut Random::new(seed));
-        let mut memory = Memory::new(TRACE);
-        let explained = explain(&book.encode(), BUDGET, &mut memory);
+        let book = generate::often_failing(&mut Random::new(seed));
+        let explained = explain(&book.encode(), BUDGET, &mut Memory::new(TRACE));
         let ended = Ended::of(&explained)?;
         let checked = match ended.number {
             25 => self.tell(&book, &explained, &ended),
             26 => self
-                .look(&book, &explained, &ended, &memory)
+                .look(&book, &explained, &ended)
                 .and_then(|_| self.tell(&book, &explained, &ended)),
             27 | 29 => self.publish(&book, &explained),
             _ => Ok(()),
@@ -66,20 +65,18 @@ impl Reasons {
         demand(expected, "made public")
     }
 
-    /// A cell that is not written keeps the label that it was tested against.
-    fn look(
-        &mut self,
-        book: &Book,
-        explained: &Explained,
-        ended: &Ended,
-        memory: &Memory,
-    ) -> Result<(), String> {
+    /// A cell that is not written has the label that it was tested against, until
+    /// the posting that failed is taken back.
+    fn look(&mut self, book: &Book, explained: &Explained, ended: &Ended) -> Result<(), String> {
         let command = book.nodes[ended.node as usize];
         let [owner, line] = [command.a, command.b].map(|key| book.nodes[usize::from(key)]);
         if owner.kind != kind::CONSTANT || line.kind != kind::CONSTANT {
             return Ok(());
         }
         self.in_memory += 1;
+        let mut memory = Memory::new(TRACE);
+        let (file, failed) = (book.encode(), Failed::Left);
+        carry_out(&file, BUDGET, &mut memory, Tests::Labelled, failed);
         let place = 64 * usize::from(command.p) + (8 * owner.k + line.k) as usize;
         let label = Places::from_words(&memory.labels[8 * place..8 * place + 8]);
         let mut lacking = explained.lacking;

@@ -32,7 +32,7 @@ impl Singles {
 
     pub fn check(&mut self, seed: u64) -> Result<(), String> {
         let mut random = Random::new(seed);
-        let book = generate::book(&mut random);
+        let book = generate::often_failing(&mut random);
         let file = book.encode();
         let limits = Limits::random(&mut random);
         self.labelled

@@ -1,50 +1,20 @@
--- `numbers::i32_at` meets its contract: the upper half of the bits stands for the numbers below zero.
-use mathlib.Core.Path.{_≡_, sym, ap, _∙_}
-use Prim.Native.Nat.{ℕ, suc, _-_, _^_, _≤_, _<_}
-use native.Mathlib.Omega.{arith}
-use lib.IntN.{ℤ, negsuc, _+ℤ_}
+-- `numbers::i32_at` meets its contract.
+use mathlib.Core.Path.{ap, _∙_}
 use mir.Syntax.{w32}
-use mir.Val.{toZ, SFits}
-use mir.Facts.{toZ-pos, toZ-ofZ}
-use borrow.Author.Tests.{lt-ltb, le-ltb}
+use mir.Facts.{toZ-ofZ}
 use borrow.Author.Needs.{needs}
 use Rattle.numbers.specs.Bytes.{signed32}
 use Rattle.numbers.proofs.i32_at.Statement.{statement}
 use Rattle.numbers.proofs.i32_at.Tie as tie
 
--- 2 ^ 31 below a number of the lower half
-lowered : (n : ℕ) → n < 2 ^ 31 → toZ w32 n +ℤ negsuc 2147483647 ≡ negsuc (2 ^ 31 - suc n)
-lowered n h = ap (λ (z : ℤ). z +ℤ negsuc 2147483647) (toZ-pos w32 h) ∙ rw (lt-ltb n 2147483648 h)
-
-lowered-fits : (n : ℕ) → n < 2 ^ 31 → SFits w32 (toZ w32 n +ℤ negsuc 2147483647)
-lowered-fits n h = rw (lowered n h) (record { sfits = omega arith })
-
-upper : (n : ℕ) → 2 ^ 31 ≤ n → toZ w32 n ≡ negsuc (2 ^ 32 - suc n)
-upper n h = rw (le-ltb n 2147483648 h)
-
 u32-at-requires : tie.Need-u32-at-requires
 u32-at-requires c κs = search needs
 
-cast-result : tie.Need-cast-result
-cast-result c = search needs
+signed-requires : tie.Need-signed-requires
+signed-requires c κs = search needs
 
 returns : tie.Need-returns
-returns c = ap signed32 (c .before .u32-at .ensures)
-
-cast-above : tie.Need-cast-above
-cast-above c = search needs
-
-add-result : tie.Need-add-result
-add-result c = lowered-fits (c .before .u32-at .result - 2147483648) (omega arith)
-
-returns-2 : tie.Need-returns-2
-returns-2 c =
-    let n : ℕ = c .before .u32-at .result in
-    let above : 2 ^ 31 ≤ n = c .if1 .left in
-    let low : n - 2147483648 < 2 ^ 31 = omega arith in
-    let same : 2 ^ 31 - suc (n - 2147483648) ≡ 2 ^ 32 - suc n = omega arith in
-    toZ-ofZ (lowered-fits (n - 2147483648) low) ∙ lowered (n - 2147483648) low ∙ ap negsuc same ∙ sym (upper n above) ∙ ap signed32 (c .before .u32-at .ensures)
+returns c = toZ-ofZ {w = w32} (record { sfits = c .signed .ok }) ∙ c .signed .ensures ∙ ap signed32 (c .before .u32-at .ensures)
 
 pub i32-at-spec : {M : Type 1} → statement M
-i32-at-spec =
-    tie.close (tie.spec u32-at-requires cast-result returns cast-above add-result returns-2)
+i32-at-spec = tie.close (tie.spec u32-at-requires signed-requires returns)

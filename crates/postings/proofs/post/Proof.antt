@@ -145,7 +145,7 @@ returns-4 c own e =
     let stored = c .store-cell .ensures in
     posts (s .args .n) (s .args .ctx .now) (s .args .user) (s .args .table) _ _ _ _ _ (keyed (placed .before)) (s .pre .1) (allowed may)
     (label-test (passed .before) ∙ not-false _ (passed .if3 .left)) (place-is placed) (placed .place-of .ensures .1)
-    (rw (← place-is placed, ← e) (rw (toZ-ofZ (record { sfits = c .before .store-cell-arg3 .given })) at (stored .0))) (stored .1 .0) (stored .1 .1)
+    (rw (← place-is placed, ← e) (rw (toZ-ofZ (record { sfits = c .before .store-cell-arg3 .given })) at (stored .0))) (stored .1 .0) (stored .1 .1) (stored .1 .2)
 
 pub post-spec : {M : Type 1} → statement M
 post-spec =

@@ -1,9 +1,19 @@
 -- `postings::store_cell` meets its contract.
+use mathlib.Core.Path.{ap, _∙_}
+use mathlib.Core.List.{List}
+use Prim.Native.Nat.{ℕ}
 use borrow.Author.Needs.{needs}
 use mir.Facts.{toZ-ofZ}
+use Rattle.monitor.specs.Labelled.{Lab}
+use Rattle.monitor.specs.Run.{Cell, update}
+use Rattle.machine.specs.Store.{cell}
 use Rattle.machine.proofs.Stores.{cell-stored, rights-stay, public-stays}
+use Rattle.undo.proofs.Undo.{undo-written}
 use Rattle.postings.proofs.store_cell.Statement.{statement}
 use Rattle.postings.proofs.store_cell.Tie as tie
+
+keep-requires : tie.Need-keep-requires
+keep-requires c κs = search needs
 
 element-copy-out-present : tie.Need-element-copy-out-present
 element-copy-out-present c = search needs
@@ -56,15 +66,20 @@ element-set-from-label c = search needs
 returns : tie.Need-returns
 returns c =
     let all = c .before .before .before .before in
-    let s = all .before .before .before .before in
+    let kept = all .before .before .before .before in
+    let s = kept .before .before .before in
+    let a = s .args in
+    let sets : List (List ℕ) = kept .keep .last .1 .0 in
+    let keeps = kept .keep .ensures in
     let words = c .before .before .eight .ensures in
     let long = all .all-sets2 .given .0 in
     rw (toZ-ofZ (s .fits .amount), c .marked .ensures, c .before .single .ensures) (
-      cell-stored (s .args .sets .now) (s .args .place) (s .args .event) (s .args .label) (s .pre) words long (s .args .amounts .now) (s .args .amount)
-          (all .before .before .all-amounts2 .given .0),
+      cell-stored sets (a .place) (a .event) (a .label) (s .pre) words long (a .amounts .now) (a .amount) (all .before .before .all-amounts2 .given .0)
+          ∙ ap (λ (cells : ℕ → Lab Cell). update cells (a .place) (record { val = cell (a .event) (a .amount); lab = a .label })) (keeps .same .cells-same),
       (
-        rights-stay (s .args .sets .now) (s .args .place) (s .args .event) (s .args .label) (s .pre) words long,
-        public-stays (s .args .sets .now) (s .args .place) (s .args .event) (s .args .label) (s .pre) words long,
+        rights-stay sets (a .place) (a .event) (a .label) (s .pre) words long ∙ keeps .same .rights-same,
+        public-stays sets (a .place) (a .event) (a .label) (s .pre) words long ∙ keeps .same .public-same,
+        undo-written sets (a .place) (a .event) (a .label) (s .pre) words long (a .amounts .now) (a .amount) (keeps .eight) (keeps .touched) ∙ keeps .undo-same,
       ),
     )
 
@@ -72,6 +87,7 @@ pub store-cell-spec : {M : Type 1} → statement M
 store-cell-spec =
     tie.close
     (tie.spec
+    keep-requires
     element-copy-out-present
     eight-requires
     single-requires

@@ -33,7 +33,7 @@ exec-requires : tie.Need-exec-requires
 exec-requires c κs =
     let bytes = c .before .before .before .before .before .before .before .before in
     let s = bytes .before .before .before .before .before in
-    (s .pre .0, rw (bytes .u16-at .ensures .0, read s .root) (read s .root-command), rw (bytes .before .before .byte-at .ensures .0, read s .user) (read s .user-below))
+    (s .pre .0, rw (bytes .u16-at .ensures .0, read s .root) (read s .root-command), rw (bytes .before .before .byte-at .ensures .0, read s .user) (read s .user-below), s .pre .2)
 
 same-length : tie.Need-same-length
 same-length c = c .before .before .exec .kept .1 .1 .1 .1 .1 .1 .1 .1 .1 .0

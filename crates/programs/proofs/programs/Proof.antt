@@ -18,10 +18,10 @@ abbrev μ-loop : tie.MeasureT-loop
 μ-loop code cells₀ sets₀ run₀ trace₀ count i₀ cells sets run trace i = count - i
 
 u16-at-requires : tie.Need-u16-at-requires Inv-loop μ-loop
-u16-at-requires c κs = omega (arith, c .before .before .pre .runnable .long)
+u16-at-requires c κs = omega (arith, c .before .before .pre .0 .runnable .long)
 
 loop-holds : tie.Need-loop-holds Inv-loop μ-loop
-loop-holds c = record { lent = c .before .before .before .pre; long = refl; rest = λ vars d. d }
+loop-holds c = record { lent = c .before .before .before .pre .0; idles = c .before .before .before .pre .1; long = refl; rest = λ vars d. d }
 
 -- in the loop there is such a program
 inside : (c : tie.In-loop Inv-loop μ-loop) → c .before .loop .i < length (script-of (c .before .before .before .before .before .args .code .now) .programs)
@@ -30,7 +30,7 @@ inside c = omega (arith, programs-count (c .before .before .before .before .befo
 program-requires : tie.Need-program-requires Inv-loop μ-loop
 program-requires c κs =
     let here = c .before .before .before .before in
-    (here .before .loop .inv .lent, inside here)
+    (here .before .loop .inv .lent, inside here, here .before .loop .inv .idles)
 
 -- the turn in which a program ran
 abbrev turn : tie.After-program Inv-loop μ-loop → tie.In-loop Inv-loop μ-loop

@@ -12,7 +12,7 @@ use lib.Pow.{shl-exact}
 use borrow.Author.Needs.{needs}
 use Rattle.places.specs.Sets.{empty, single}
 use Rattle.places.proofs.Shapes.{single-word}
-use Rattle.machine.specs.Store.{row-at, label-row, set-rows}
+use Rattle.machine.specs.Store.{row-at, posting-row, label-row, set-rows}
 use Rattle.machine.proofs.Stores.{row-same, row-other}
 use Rattle.start.proofs.own_labels.Statement.{statement}
 use Rattle.start.proofs.own_labels.Tie as tie
@@ -20,13 +20,13 @@ use Rattle.start.proofs.own_labels.Tie as tie
 abbrev Inv-loop : tie.InvT-loop
 Inv-loop sets₀ place₀ sets place =
     (place ≤ 512) × (length sets ≡ set-rows) × ((q : ℕ) → q < place → row-at sets (label-row + q) ≡ single 8 q)
-    × ((q : ℕ) → place ≤ q → q < 512 → row-at sets (label-row + q) ≡ empty 8)
+    × ((q : ℕ) → place ≤ q → q < 512 → row-at sets (label-row + q) ≡ empty 8) × (row-at sets posting-row ≡ empty 8)
 
 abbrev μ-loop : tie.MeasureT-loop
 μ-loop sets₀ place₀ sets place = 512 - place
 
 loop-holds : tie.Need-loop-holds Inv-loop μ-loop
-loop-holds c = rw (c .pre) (search needs, length-replicate set-rows (empty 8), λ q h. absurd (not-suc-le-zero h), λ q l h. getD-replicate set-rows (label-row + q) (empty 8) [] (omega arith))
+loop-holds c = rw (c .pre) (search needs, length-replicate set-rows (empty 8), λ q h. absurd (not-suc-le-zero h), λ q l h. getD-replicate set-rows (label-row + q) (empty 8) [] (omega arith), getD-replicate set-rows posting-row (empty 8) [] (omega arith))
 
 shl-sets : tie.Need-shl-sets Inv-loop μ-loop
 shl-sets c = search needs
@@ -69,13 +69,14 @@ loop-again c =
           (λ (b : q < p). other (label-row + q) (λ e. omega (arith, e)) ∙ l .inv .2 q b)
           (eq-or-lt-of-le (le-of-suc-le-suc (rw add-one at h))),
       λ q b h. other (label-row + q) (λ e. omega (arith, e)) ∙ l .inv .3 q (omega arith) h,
+      other posting-row (λ e. omega (arith, e)) ∙ l .inv .4,
     )
 
 returns : tie.Need-returns Inv-loop μ-loop
 returns c =
     let l = c .before .loop in
     let e : l .place ≡ 512 = omega arith in
-    (l .inv .1, rw e at (l .inv .2))
+    (l .inv .1, rw e at (l .inv .2), l .inv .4)
 
 pub own-labels-spec : {M : Type 1} → statement M
 own-labels-spec =

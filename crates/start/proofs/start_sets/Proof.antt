@@ -1,15 +1,17 @@
 -- `start::start_sets` meets its contract: each set is stored in its rows, and later stores leave it.
 use mathlib.Core.Path.{_≡_, _∙_}
 use mathlib.Core.List.{List, []}
+use mathlib.Core.Bool.{true}
 use Prim.Native.Nat.{ℕ, _+_, _≤_}
 use native.Mathlib.Omega.{arith}
 use lib.ListN.{set, length-set, List·getD-eq-default}
+use Rattle.places.specs.Sets.{empty}
 use Rattle.book.specs.Records.{Book}
 use Rattle.book.specs.Start.{tabulate, right-set}
 use Rattle.book.proofs.Tabulate.{length-tabulate}
 use Rattle.monitor.specs.Call.{rows}
 use Rattle.machine.specs.Script.{script-of}
-use Rattle.machine.specs.Store.{present-row, public-row, read-row, write-row, label-row}
+use Rattle.machine.specs.Store.{row-at, present-row, public-row, read-row, write-row, posting-row, label-row, idle}
 use Rattle.machine.proofs.Stores.{row-same, row-other, users-same, users-replaced}
 use borrow.Author.Needs.{needs}
 use Rattle.start.proofs.start_sets.Statement.{statement}
@@ -19,6 +21,11 @@ use Rattle.start.proofs.start_sets.Tie as tie
 none : (b : Book) (kind user : ℕ) → 8 ≤ user → rows (tabulate (right-set b kind) 8) user ≡ []
 unfolding rows
 none b kind user h = List·getD-eq-default (tabulate (right-set b kind) 8) [] (omega (arith, length-tabulate (right-set b kind) 8))
+
+-- an empty row is that of no posting
+idle-row : (sets : List (List ℕ)) → row-at sets posting-row ≡ empty 8 → idle sets ≡ true
+unfolding idle
+idle-row sets e = rw e
 
 own-labels-requires : tie.Need-own-labels-requires
 own-labels-requires c κs = search needs
@@ -74,6 +81,11 @@ returns c =
           ∙ row-other s₂ public-row _ (label-row + place) (λ e. omega (arith, e))
           ∙ row-other s₁ present-row _ (label-row + place) (λ e. omega (arith, e))
           ∙ own .own-labels .ensures .1 place h;
+      idles = idle-row _ (w .after posting-row (omega arith)
+          ∙ r .after posting-row (omega arith)
+          ∙ row-other s₂ public-row _ posting-row (λ e. omega (arith, e))
+          ∙ row-other s₁ present-row _ posting-row (λ e. omega (arith, e))
+          ∙ own .own-labels .ensures .2);
     }
 
 pub start-sets-spec : {M : Type 1} → statement M

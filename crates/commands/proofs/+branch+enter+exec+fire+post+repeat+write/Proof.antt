@@ -6,34 +6,38 @@ mod Exec
 mod Fire
 mod Post
 mod Repeat
+mod Write
 use native.Mathlib.Omega.{arith}
 use borrow.Author.Needs.{needs}
 use Rattle.commands.proofs.Steps.{does-keeps}
 use Rattle.commands.proofs.branch.Reads as branch
-use Rattle.commands.proofs.+branch+enter+exec+fire+post+repeat.Lts-branch as branch-lts
+use Rattle.commands.proofs.+branch+enter+exec+fire+post+repeat+write.Lts-branch as branch-lts
 use Rattle.commands.proofs.enter.Reads as enter
-use Rattle.commands.proofs.+branch+enter+exec+fire+post+repeat.Lts-enter as enter-lts
+use Rattle.commands.proofs.+branch+enter+exec+fire+post+repeat+write.Lts-enter as enter-lts
 use Rattle.commands.proofs.exec.Reads as exec
-use Rattle.commands.proofs.+branch+enter+exec+fire+post+repeat.Lts-exec as exec-lts
+use Rattle.commands.proofs.+branch+enter+exec+fire+post+repeat+write.Lts-exec as exec-lts
 use Rattle.commands.proofs.fire.Reads as fire
-use Rattle.commands.proofs.+branch+enter+exec+fire+post+repeat.Lts-fire as fire-lts
+use Rattle.commands.proofs.+branch+enter+exec+fire+post+repeat+write.Lts-fire as fire-lts
 use Rattle.commands.proofs.post.Reads as post
-use Rattle.commands.proofs.+branch+enter+exec+fire+post+repeat.Lts-post as post-lts
+use Rattle.commands.proofs.+branch+enter+exec+fire+post+repeat+write.Lts-post as post-lts
 use Rattle.commands.proofs.repeat.Reads as repeat
-use Rattle.commands.proofs.+branch+enter+exec+fire+post+repeat.Lts-repeat as repeat-lts
-use Rattle.commands.proofs.+branch+enter+exec+fire+post+repeat.{statement}
-use Rattle.commands.proofs.+branch+enter+exec+fire+post+repeat.Tie.{close}
-use Rattle.commands.proofs.+branch+enter+exec+fire+post+repeat.Proof.Common.{μ-branch, μ-enter, μ-exec, μ-fire, μ-post, μ-repeat, branch-cs, branch-at, enter-cs, enter-at, exec-cs, exec-at, fire-cs, fire-at, post-cs, post-at, repeat-cs, repeat-at}
-use Rattle.commands.proofs.+branch+enter+exec+fire+post+repeat.Proof.Branch as branch-needs
-use Rattle.commands.proofs.+branch+enter+exec+fire+post+repeat.Proof.Enter as enter-needs
-use Rattle.commands.proofs.+branch+enter+exec+fire+post+repeat.Proof.Exec as exec-needs
-use Rattle.commands.proofs.+branch+enter+exec+fire+post+repeat.Proof.Fire as fire-needs
-use Rattle.commands.proofs.+branch+enter+exec+fire+post+repeat.Proof.Post as post-needs
-use Rattle.commands.proofs.+branch+enter+exec+fire+post+repeat.Proof.Repeat as repeat-needs
+use Rattle.commands.proofs.write.Reads as write
+use Rattle.commands.proofs.+branch+enter+exec+fire+post+repeat+write.Lts-write as write-lts
+use Rattle.commands.proofs.+branch+enter+exec+fire+post+repeat+write.Lts-repeat as repeat-lts
+use Rattle.commands.proofs.+branch+enter+exec+fire+post+repeat+write.{statement}
+use Rattle.commands.proofs.+branch+enter+exec+fire+post+repeat+write.Tie.{close}
+use Rattle.commands.proofs.+branch+enter+exec+fire+post+repeat+write.Proof.Common.{μ-branch, μ-enter, μ-exec, μ-fire, μ-post, μ-repeat, μ-write, branch-cs, branch-at, enter-cs, enter-at, exec-cs, exec-at, fire-cs, fire-at, post-cs, post-at, repeat-cs, repeat-at, write-cs, write-at}
+use Rattle.commands.proofs.+branch+enter+exec+fire+post+repeat+write.Proof.Branch as branch-needs
+use Rattle.commands.proofs.+branch+enter+exec+fire+post+repeat+write.Proof.Enter as enter-needs
+use Rattle.commands.proofs.+branch+enter+exec+fire+post+repeat+write.Proof.Exec as exec-needs
+use Rattle.commands.proofs.+branch+enter+exec+fire+post+repeat+write.Proof.Fire as fire-needs
+use Rattle.commands.proofs.+branch+enter+exec+fire+post+repeat+write.Proof.Post as post-needs
+use Rattle.commands.proofs.+branch+enter+exec+fire+post+repeat+write.Proof.Repeat as repeat-needs
+use Rattle.commands.proofs.+branch+enter+exec+fire+post+repeat+write.Proof.Write as write-needs
 
-pub +branch+enter+exec+fire+post+repeat-spec : {M : Type 1} → statement M
-+branch+enter+exec+fire+post+repeat-spec =
-    close μ-branch μ-enter μ-exec μ-fire μ-post μ-repeat (λ t. branch-lts.spec (branch-cs t)
+pub +branch+enter+exec+fire+post+repeat+write-spec : {M : Type 1} → statement M
++branch+enter+exec+fire+post+repeat+write-spec =
+    close μ-branch μ-enter μ-exec μ-fire μ-post μ-repeat μ-write (λ t. branch-lts.spec (branch-cs t)
     (branch-at t)
     branch.Post
     (branch-needs.decide-requires t)
@@ -121,14 +125,14 @@ pub +branch+enter+exec+fire+post+repeat-spec : {M : Type 1} → statement M
     (post-cs t)
     (post-at t)
     post.Post
-    (post-needs.post-requires t)
-    (λ c. c .match .keys1)
-    (λ c. c .match .keys2)
-    (post-needs.returns t)
-    (post-needs.fire-requires t)
+    (λ c κs. tt)
+    (post-needs.write-requires t)
+    (λ c κs. tt)
     (post-needs.same-length t)
+    (post-needs.returns t)
+    (post-needs.same-length-2 t)
     (post-needs.returns-2 t))
-    λ t. repeat-lts.spec (repeat-cs t)
+    (λ t. repeat-lts.spec (repeat-cs t)
     (repeat-at t)
     repeat.Post
     repeat-needs.Inv-loop
@@ -150,4 +154,15 @@ pub +branch+enter+exec+fire+post+repeat-spec : {M : Type 1} → statement M
     (repeat-needs.loop-again t)
     (λ c. c .match3 .keys2)
     (repeat-needs.same-length-3 t)
-    (repeat-needs.returns-3 t)
+    (repeat-needs.returns-3 t))
+    λ t. write-lts.spec
+    (write-cs t)
+    (write-at t)
+    write.Post
+    (write-needs.post-requires t)
+    (λ c. c .match .keys1)
+    (λ c. c .match .keys2)
+    (write-needs.returns t)
+    (write-needs.fire-requires t)
+    (write-needs.same-length t)
+    (write-needs.returns-2 t)

@@ -6,11 +6,11 @@ use Rattle.book.specs.Kinds.{between}
 use Rattle.machine.specs.Promises.{who-of}
 use Rattle.machine.specs.Store.{store}
 use Rattle.commands.proofs.Chains.{weight-kept}
-use Rattle.commands.proofs.Steps.{lent-on, answers}
+use Rattle.commands.proofs.Steps.{lent-on, idle-on, answers}
 use Rattle.commands.proofs.Tests.{branch-ends, branch-goes}
 use Rattle.commands.proofs.branch.Reads.{Post}
-use Rattle.commands.proofs.+branch+enter+exec+fire+post+repeat.Lts-branch as lts
-use Rattle.commands.proofs.+branch+enter+exec+fire+post+repeat.Proof.Common.{branch-at, branch-cs, not-enter}
+use Rattle.commands.proofs.+branch+enter+exec+fire+post+repeat+write.Lts-branch as lts
+use Rattle.commands.proofs.+branch+enter+exec+fire+post+repeat+write.Proof.Common.{branch-at, branch-cs, not-enter}
 
 pub decide-requires : (t : ℕ) → lts.Need-decide-requires (branch-cs t) (branch-at t) Post
 decide-requires t c κs =
@@ -31,7 +31,7 @@ exec-requires t c κs =
     let a = s .args in
     let lent = s .pre .1 .0 .0 in
     let goes = branch-goes (a .code .now) (a .ctx .now) (who-of (a .who .now)) (a .n) {x = store (a .cells .now) (a .sets .now) (a .run .now) (a .trace .now)} (c .before .before .before .before .before .before .before .before .before .before .decide .ensures) (lent .room) (lent .runnable .sound) (s .pre .1 .0 .1 .inside) (c .before .before .before .before .before .before .before .before .next .given .1) (s .pre .1 .1) in
-    (omega (arith, s .pre .0, weight-kept (a .code .now) (c .before .before .before .before .before .before .before .before .next .given .0 .0) (goes .1 .keeps)), (lent-on lent (goes .1 .keeps), goes .0, s .pre .1 .0 .2))
+    (omega (arith, s .pre .0, weight-kept (a .code .now) (c .before .before .before .before .before .before .before .before .next .given .0 .0) (goes .1 .keeps)), (lent-on lent (goes .1 .keeps), goes .0, s .pre .1 .0 .2, idle-on (s .pre .1 .0 .3) (goes .1 .keeps)))
 
 pub returns-2 : (t : ℕ) → lts.Need-returns-2 (branch-cs t) (branch-at t) Post
 returns-2 t c =

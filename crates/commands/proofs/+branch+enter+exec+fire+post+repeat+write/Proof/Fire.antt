@@ -1,19 +1,20 @@
 -- The needs of `fire`.
 use mathlib.Core.Path.{refl, sym, _∙_}
 use mathlib.Core.List.{[]}
-use Prim.Native.Nat.{ℕ, _-_}
+use Prim.Native.Nat.{ℕ, _+_, _-_}
 use native.Mathlib.Omega.{arith}
 use lib.ListN.{length}
+use borrow.Author.Tests.{ne-eqb}
 use Rattle.machine.specs.Script.{script-of}
 use Rattle.machine.specs.Store.{store}
 use Rattle.machine.specs.Writes.{key-in, cell-in}
 use Rattle.monitor.specs.Labelled.{Label}
 use Rattle.commands.proofs.Chains.{weight-kept}
 use Rattle.commands.proofs.Firing.{variables-are, Found, found, none-left, found-stops, found-goes, found-runs, Remains}
-use Rattle.commands.proofs.Steps.{does-keeps, keeps-both, keeps-itself, lent-on, answers}
+use Rattle.commands.proofs.Steps.{does-keeps, keeps-both, keeps-itself, lent-on, idle-on, answers}
 use Rattle.commands.proofs.fire.Reads.{Post}
-use Rattle.commands.proofs.+branch+enter+exec+fire+post+repeat.Lts-fire as lts
-use Rattle.commands.proofs.+branch+enter+exec+fire+post+repeat.Proof.Common.{fire-at, fire-cs}
+use Rattle.commands.proofs.+branch+enter+exec+fire+post+repeat+write.Lts-fire as lts
+use Rattle.commands.proofs.+branch+enter+exec+fire+post+repeat+write.Proof.Common.{fire-at, fire-cs}
 
 abbrev pub Inv-loop : lts.InvT-loop
 Inv-loop code who event place ctx label key cells₀ sets₀ run₀ trace₀ from₀ cells sets run trace from =
@@ -56,7 +57,7 @@ exec-requires t c κs =
     let lent = s .pre .1 .0 in
     let remains = c .before .before .before .before .before .before .before .before .before .before .before .before .before .before .before .loop .inv in
     let runs = found-runs (a .code .now) (a .ctx .now) (a .event) (a .place) _ _ (lent .runnable) (first t [] (c .before .before .before .before .before .before .before .before .before .before .before .before)) in
-    (omega (arith, s .pre .0, weight-kept (a .code .now) (c .before .before .before .before .before .before .before .before .before .before .before .before .next .given .0 .1 .1 .0) (remains .keeps)), (lent-on lent (remains .keeps), runs .0, runs .1))
+    (omega (arith, s .pre .0, weight-kept (a .code .now) (c .before .before .before .before .before .before .before .before .before .before .before .before .next .given .0 .1 .1 .0) (remains .keeps)), (lent-on lent (remains .keeps), runs .0, runs .1, idle-on (s .pre .1 .2) (remains .keeps) ∙ sym (ne-eqb (c .before .before .before .before .before .before .before .before .before .before .before .before .next .given .0 .0 + 1) 0 (λ e. omega (arith, e)))))
 
 pub loop-less : (t : ℕ) → lts.Need-loop-less (fire-cs t) (fire-at t) Post Inv-loop μ-loop
 loop-less t c =

@@ -16,8 +16,8 @@ use Rattle.machine.proofs.Nodes.{Read, read-at, node-below, kind-below}
 use Rattle.commands.proofs.Chains.{weight-list}
 use Rattle.commands.proofs.Steps.{lent-on, priced, paid-less, paid-keeps, enters, enters-not}
 use Rattle.commands.proofs.enter.Reads.{Post}
-use Rattle.commands.proofs.+branch+enter+exec+fire+post+repeat.Lts-enter as lts
-use Rattle.commands.proofs.+branch+enter+exec+fire+post+repeat.Proof.Common.{enter-at, enter-cs}
+use Rattle.commands.proofs.+branch+enter+exec+fire+post+repeat+write.Lts-enter as lts
+use Rattle.commands.proofs.+branch+enter+exec+fire+post+repeat+write.Proof.Common.{enter-at, enter-cs}
 
 -- a kind that is none of 18 to 22
 past : {n k : ℕ} → n ≤ k → (k ≡ n → ⊥) → n + 1 ≤ k
@@ -69,22 +69,22 @@ returns-2 t c =
 pub branch-requires : (t : ℕ) → lts.Need-branch-requires (enter-cs t) (enter-at t) Post
 branch-requires t c κs =
     let s = c .before .before .before .before .before .before .before .before .before .before .before .before .before .before in
-    (omega (arith, s .pre .0, paid-less (s .args .code .now) (s .args .n) (paid t (c .before .before .before .before .before .before .before))), ((lent t (c .before .before .before .before .before .before .before), s .pre .1 .1, s .pre .1 .2), sym (node t s .kind) ∙ c .before .before .before .before .before .before .match2 .keys1))
+    (omega (arith, s .pre .0, paid-less (s .args .code .now) (s .args .n) (paid t (c .before .before .before .before .before .before .before))), ((lent t (c .before .before .before .before .before .before .before), s .pre .1 .1, s .pre .1 .2, s .pre .1 .3), sym (node t s .kind) ∙ c .before .before .before .before .before .before .match2 .keys1))
 
 pub repeat-requires : (t : ℕ) → lts.Need-repeat-requires (enter-cs t) (enter-at t) Post
 repeat-requires t c κs =
     let s = c .before .before .before .before .before .before .before .before .before .before .before .before .before .before in
-    (omega (arith, s .pre .0, paid-less (s .args .code .now) (s .args .n) (paid t (c .before .before .before .before .before .before .before))), ((lent t (c .before .before .before .before .before .before .before), s .pre .1 .1, s .pre .1 .2), sym (node t s .kind) ∙ c .before .before .before .before .before .before .match2 .keys2))
+    (omega (arith, s .pre .0, paid-less (s .args .code .now) (s .args .n) (paid t (c .before .before .before .before .before .before .before))), ((lent t (c .before .before .before .before .before .before .before), s .pre .1 .1, s .pre .1 .2, s .pre .1 .3), sym (node t s .kind) ∙ c .before .before .before .before .before .before .match2 .keys2))
 
 pub post-requires : (t : ℕ) → lts.Need-post-requires (enter-cs t) (enter-at t) Post
 post-requires t c κs =
     let s = c .before .before .before .before .before .before .before .before .before .before .before .before .before .before in
-    (omega (arith, s .pre .0, paid-less (s .args .code .now) (s .args .n) (paid t (c .before .before .before .before .before .before .before))), ((lent t (c .before .before .before .before .before .before .before), s .pre .1 .1, s .pre .1 .2), (sym (node t s .kind) ∙ c .before .before .before .before .before .before .match2 .keys3, omega arith, omega arith)))
+    (omega (arith, s .pre .0, paid-less (s .args .code .now) (s .args .n) (paid t (c .before .before .before .before .before .before .before))), ((lent t (c .before .before .before .before .before .before .before), s .pre .1 .1, s .pre .1 .2, s .pre .1 .3), (sym (node t s .kind) ∙ c .before .before .before .before .before .before .match2 .keys3, omega arith, omega arith)))
 
 pub post-requires-2 : (t : ℕ) → lts.Need-post-requires-2 (enter-cs t) (enter-at t) Post
 post-requires-2 t c κs =
     let s = c .before .before .before .before .before .before .before .before .before .before .before .before .before .before in
-    (omega (arith, s .pre .0, paid-less (s .args .code .now) (s .args .n) (paid t (c .before .before .before .before .before .before .before))), ((lent t (c .before .before .before .before .before .before .before), s .pre .1 .1, s .pre .1 .2), (sym (node t s .kind) ∙ c .before .before .before .before .before .before .match2 .keys4, omega arith, omega arith)))
+    (omega (arith, s .pre .0, paid-less (s .args .code .now) (s .args .n) (paid t (c .before .before .before .before .before .before .before))), ((lent t (c .before .before .before .before .before .before .before), s .pre .1 .1, s .pre .1 .2, s .pre .1 .3), (sym (node t s .kind) ∙ c .before .before .before .before .before .before .match2 .keys4, omega arith, omega arith)))
 
 pub act-requires : (t : ℕ) → lts.Need-act-requires (enter-cs t) (enter-at t) Post
 act-requires t c κs =

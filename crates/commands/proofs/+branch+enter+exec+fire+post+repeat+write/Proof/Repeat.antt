@@ -11,11 +11,11 @@ use Rattle.machine.specs.Promises.{Enters, Commands, who-of}
 use Rattle.machine.proofs.Nodes.{node-below}
 use Rattle.machine.proofs.Runs.{then-stops, then-goes}
 use Rattle.commands.proofs.Chains.{weight-kept}
-use Rattle.commands.proofs.Steps.{does-keeps, keeps-both, lent-on, Rest, rest-start, rest-both, answers, priced, paid-less, paid-keeps, enters, enters-not}
+use Rattle.commands.proofs.Steps.{does-keeps, keeps-both, lent-on, idle-on, Rest, rest-start, rest-both, answers, priced, paid-less, paid-keeps, enters, enters-not}
 use Rattle.commands.proofs.Tests.{while-ends, while-goes}
 use Rattle.commands.proofs.repeat.Reads.{Post}
-use Rattle.commands.proofs.+branch+enter+exec+fire+post+repeat.Lts-repeat as lts
-use Rattle.commands.proofs.+branch+enter+exec+fire+post+repeat.Proof.Common.{repeat-at, repeat-cs, not-enter}
+use Rattle.commands.proofs.+branch+enter+exec+fire+post+repeat+write.Lts-repeat as lts
+use Rattle.commands.proofs.+branch+enter+exec+fire+post+repeat+write.Proof.Common.{repeat-at, repeat-cs, not-enter}
 
 abbrev pub Inv-loop : lts.InvT-loop
 Inv-loop code n who ctx vars₀ tags₀ cells₀ sets₀ run₀ trace₀ inner₀ vars tags cells sets run trace inner =
@@ -56,7 +56,7 @@ pub exec-requires : (t : ℕ) → lts.Need-exec-requires (repeat-cs t) (repeat-a
 exec-requires t c κs =
     let s = c .before .before .before .before .before .before .before .before .before .before .before .before .before .before .before .before .before .before .before .before in
     let goes = turn t (c .before .before .before .before .before .before .before .before) in
-    (omega (arith, s .pre .0, weight-kept (s .args .code .now) (c .before .before .before .before .before .before .before .before .next .given .0 .0) (goes .1 .keeps)), (lent-on (s .pre .1 .0 .0) (goes .1 .keeps), goes .0, s .pre .1 .0 .2))
+    (omega (arith, s .pre .0, weight-kept (s .args .code .now) (c .before .before .before .before .before .before .before .before .next .given .0 .0) (goes .1 .keeps)), (lent-on (s .pre .1 .0 .0) (goes .1 .keeps), goes .0, s .pre .1 .0 .2, idle-on (s .pre .1 .0 .3) (goes .1 .keeps)))
 
 pub same-length-2 : (t : ℕ) → lts.Need-same-length-2 (repeat-cs t) (repeat-at t) Post Inv-loop μ-loop
 same-length-2 t c = does-keeps (c .before .before .before .before .exec .ensures) .same ∙ turn t (c .before .before .before .before .before .before .before .before .before .before .before .before .before) .1 .keeps .same

@@ -12,10 +12,10 @@ use Rattle.machine.specs.Promises.{who-of}
 use Rattle.machine.specs.Store.{left-of, vars-of, store}
 use Rattle.machine.proofs.Nodes.{Read, read-at, node-below}
 use Rattle.commands.proofs.Chains.{Chain, Head, head-list, head-single, chain-stops, chain-ends, chain-turns}
-use Rattle.commands.proofs.Steps.{does-keeps, keeps-both, lent-on, rest-start, priced, enters-not}
+use Rattle.commands.proofs.Steps.{does-keeps, keeps-both, lent-on, idle-on, rest-start, priced, enters-not}
 use Rattle.commands.proofs.exec.Reads.{Post}
-use Rattle.commands.proofs.+branch+enter+exec+fire+post+repeat.Lts-exec as lts
-use Rattle.commands.proofs.+branch+enter+exec+fire+post+repeat.Proof.Common.{exec-at, exec-cs}
+use Rattle.commands.proofs.+branch+enter+exec+fire+post+repeat+write.Lts-exec as lts
+use Rattle.commands.proofs.+branch+enter+exec+fire+post+repeat+write.Proof.Common.{exec-at, exec-cs}
 
 abbrev pub Inv-loop : lts.InvT-loop
 Inv-loop code n who ctx vars₀ tags₀ cells₀ sets₀ run₀ trace₀ turn₀ vars tags cells sets run trace turn =
@@ -67,7 +67,8 @@ enter-requires t c κs =
     let s = c .before .before .before .before .before .before .before .before .before .before in
     let chain = c .before .before .before .before .before .before .before .before .loop .inv in
     let h = head t (c .before .before .before .before .before .before) in
-    (omega (arith, s .pre .0, chain .within, h .less), (lent-on (s .pre .1 .0) (keeps-both (chain .rest .keeps) (h .keeps)), h .node-is, s .pre .1 .2))
+    let kept = keeps-both (chain .rest .keeps) (h .keeps) in
+    (omega (arith, s .pre .0, chain .within, h .less), (lent-on (s .pre .1 .0) kept, h .node-is, s .pre .1 .2, idle-on (s .pre .1 .3) kept))
 
 pub same-length-2 : (t : ℕ) → lts.Need-same-length-2 (exec-cs t) (exec-at t) Post Inv-loop μ-loop
 same-length-2 t c = does-keeps (c .before .before .before .before .enter .ensures) .same ∙ head t (c .before .before .before .before .before .before .before .before .before .before .before) .keeps .same ∙ c .before .before .before .before .before .before .before .before .before .before .before .before .before .loop .inv .rest .keeps .same
