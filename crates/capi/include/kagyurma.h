@@ -53,8 +53,8 @@ struct kagyurma_answered {
 
 /* Runs the book in `file` with a budget of at most 1000000 and a trace of at most 65536 bytes. Lent memory is set to the start
  * state of the book, and then holds the writes of its scripts, up to the stop if the run stopped. If it stopped inside a
- * trigger's body, the put or clear of the program that began it is taken back: all cells, present or absent, and their labels are
- * as before that command. The trace gets a record of 8 bytes for each out, grant and revoke, and keeps those before a stop; its
+ * trigger's body, the program's own put or clear from which it came is taken back: all cells, present or absent, and their labels
+ * are as before that command. The trace gets a record of 8 bytes for each out, grant and revoke, and keeps those before a stop; its
  * later bytes stay as they were. */
 struct kagyurma_ran kagyurma_run(const uint8_t *file, size_t file_len, uint32_t budget,
                                  int32_t *amounts, size_t amounts_len,

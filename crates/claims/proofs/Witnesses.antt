@@ -16,10 +16,14 @@ use Rattle.book.specs.Refusals.{no-region, no-right, no-program}
 use Rattle.book.specs.Tables.{w-file}
 use Rattle.monitor.specs.Labelled.{Label, Lab}
 use Rattle.monitor.specs.Run.{Cell}
-use Rattle.monitor.specs.Call.{Memory, Result, script, call}
+use Rattle.labels.specs.Labels.{own-labels}
+use Rattle.places.specs.Sets.{single}
+use Rattle.book.specs.Start.{start-amounts, start-presence}
+use Rattle.monitor.specs.Call.{Memory, Result, cells-of, amounts-in, presence-in, labels-in, script, start-cells, start-state, run-book, call}
 use Rattle.monitor.specs.Tables.{Shown, Row, told, lent, shown}
 use Rattle.claims.specs.TwoBooks.{Group, accepted, group-trace, Begins, reach, InsideEither, SameInside, cells-in}
-use Rattle.claims.specs.Witnesses.{members, Reaching, reached, reaches, Reaches, Pair, result-of-row, Meets, both-finish, first-stops, second-stops, both-stop, Pairs, owner-1, Exclusions, Sides, joined-bytes, memory-of, over-at, over, broken, Leaks, NoLeaks, Terms}
+use Rattle.claims.specs.Undone.{standing-run}
+use Rattle.claims.specs.Witnesses.{members, Reaching, reached, reaches, Reaches, Pair, result-of-row, Meets, both-finish, first-stops, second-stops, both-stop, Pairs, owner-1, Exclusions, Sides, joined-bytes, memory-of, over-at, over, broken, Leaks, NoLeaks, Terms, Undoes}
 use Rattle.claims.proofs.Calls.{call-quick, call-is, left-quick, left-is}
 use Rattle.claims.proofs.Inside.{below, same-amount, alike, differ-outside, same-start, only-same, only-outside, only-beyond, from-memory, to-memory}
 
@@ -229,3 +233,9 @@ terms = record {
   other-not = λ b. unlike (byte-of 0 4) (b .is) refl;
   both-begin = begins-both;
 }
+
+-- ---- what a stop takes back
+
+pub undoes : Undoes
+unfolding left-quick cells-of amounts-in presence-in labels-in start-cells start-state run-book start-amounts start-presence own-labels single standing-run
+undoes = record { stands = λ m. refl; undone = λ m. refl; answers = λ m. (refl, refl) }

@@ -1,5 +1,6 @@
 -- Witnesses: what the terms of "Two books side by side" give of single files, runs and results. Demand 3 could be proved of terms that
--- no two books meet, or of which nothing follows; these statements say that its own are met, exclude and are broken as the paper says.
+-- no two books meet, or of which nothing follows; these statements say that its own are met, exclude and are broken as the paper says. At the end,
+-- the run that takes nothing back: that the rules' run differs from it in cells alone says something, since for some book it does.
 -- Answers, costs, traces and places are worked out by hand from the paper. A query with its four bounds costs 8, every other node 1.
 use mathlib.Core.Path.{_≡_}
 use mathlib.Core.List.{List, [], _∷_, _++_, map}
@@ -7,18 +8,19 @@ use mathlib.Core.Bool.{true, false, _||_}
 use Prim.Native.Nat.{ℕ, _*_}
 use lib.Dec.{eqb}
 use lib.IntN.{ℤ, pos}
-use lib.ListN.{length}
-use Rattle.book.specs.Records.{CellRecord, RegionRecord, RightRecord, NodeRecord, ProgramRecord, TriggerRecord}
+use lib.ListN.{length, getD, take}
+use Rattle.book.specs.Records.{CellRecord, RegionRecord, RightRecord, NodeRecord, ProgramRecord, TriggerRecord, Book}
 use Rattle.book.specs.Encode.{encode}
-use Rattle.book.specs.Tables.{cell, owner-region, table-region, public, may-read, may-write, constant, sum, skip, assign, both, if, out, grant-read, grant-write, revoke-read, revoke-write, program, trigger, w-file, w-cells, w-regions, w-rights, constants, w-nodes}
+use Rattle.book.specs.Tables.{cell, owner-region, table-region, public, may-read, may-write, constant, sum, skip, assign, both, if, put, out, grant-read, grant-write, revoke-read, revoke-write, program, trigger, w-file, w-cells, w-regions, w-rights, constants, w-nodes}
 use Rattle.monitor.specs.Labelled.{Label, bottom, Lab, lit}
-use Rattle.monitor.specs.Run.{Cell, held, absent, update}
-use Rattle.monitor.specs.Call.{Memory, Result, call, amounts-in, presence-in, labels-in}
+use Rattle.monitor.specs.Run.{Cell, held, absent, Out, update}
+use Rattle.monitor.specs.Call.{Memory, Result, run-book, result-of, call, amounts-in, presence-in, labels-in}
 use Rattle.monitor.specs.Tables.{Shown, Row, run-list, shows, told, changed, lent, shown}
 use Rattle.monitor.specs.Samples.{eight}
 use Rattle.monitor.specs.declared.Answer.the-variants.{Refused, Stopped, Finished}
 use Rattle.claims.specs.TwoBooks.{Group, accepted, finished, visible, group-trace, Begins, reach, SameInside, DifferOutside, cells-in}
 use Rattle.claims.specs.Claims.{LearnsNothing}
+use Rattle.claims.specs.Undone.{standing-run}
 
 -- the group of these users
 unfoldable pub members : List ℕ → Group
@@ -393,3 +395,30 @@ pub record Terms : Type 0 where
   pub other-not : Begins (told 6 ∷ []) (told 5 ∷ told 6 ∷ []) → ⊥
   -- two traces that begin each other are the same; so `traces` of LearnsNothing follows from `first-whole` and `second-whole`
   pub both-begin : (x y : List (List ℕ)) → Begins x y → Begins y x → x ≡ y
+
+-- ---- what a stop takes back
+
+-- 2 is put at (0,0,0), where 5 is; its trigger puts 7 at (0,1,0), which is absent, and then stops at owner 8
+abbrev pub failing-book : Book
+failing-book = record {
+  cells = cell 0 0 0 (pos 5) ∷ [];
+  regions = table-region 0 ∷ [];
+  rights = may-write 0 0 ∷ [];
+  nodes = constants ++ (constant (pos 8) ∷ put 0 0 0 2 ∷ put 0 1 0 3 ∷ put 0 4 0 0 ∷ both 6 7 ∷ []);
+  programs = program 0 5 ∷ [];
+  triggers = trigger 0 1 0 8 ∷ [];
+}
+
+-- what a run of it leaves at places 0 and 8: the amounts, and of presence and of their labels the first words
+abbrev pub left-by : Out (Unit {0}) → Memory → List ℤ × List ℕ × List ℕ
+left-by o m =
+    let left = result-of 100 m o .memory in
+    (map (λ q. getD (left .amounts) q (pos 0)) (0 ∷ 8 ∷ []), take 1 (left .presence), map (λ i. getD (left .labels) i 0) (0 ∷ 64 ∷ []))
+
+-- The rule before Change 2 lets stand what the posting wrote, and the rules do not; both runs answer alike. The put costs 4, the sequence 1, and
+-- each put of the trigger 4.
+pub record Undoes : Type 0 where
+  pub stands : (m : Memory) → left-by (standing-run true failing-book 100 2) m ≡ (pos 2 ∷ pos 7 ∷ [], 257 ∷ [], 0 ∷ 0 ∷ [])
+  pub undone : (m : Memory) → left-by (run-book true failing-book 100 2) m ≡ (pos 5 ∷ pos 0 ∷ [], 1 ∷ [], 1 ∷ 256 ∷ [])
+  pub answers : (m : Memory) → (result-of 100 m (standing-run true failing-book 100 2) .answer ≡ Stopped 23 7 13 0)
+      × (result-of 100 m (run-book true failing-book 100 2) .answer ≡ Stopped 23 7 13 0)

@@ -97,8 +97,7 @@ abbrev pub OnlyCellsBack : Type 0
 OnlyCellsBack = (file : List ℕ) (budget : ℕ) (before after : Memory) (r : Answer)
     → Runs file budget before r after → AsBefore file budget before after r
 
--- The tool reads the sets as they were before the taking back: what it gives of an accepted call is the explanation of the run in which nothing
--- is taken back.
+-- What is undone does not mislead the tool: what it gives of an accepted call is the explanation of the run in which nothing is taken back.
 abbrev pub ExplainedBefore : Type 0
 ExplainedBefore = (file : List ℕ) (budget : ℕ) (before after : Memory) (r : Explained) → Explains file budget before r after
     → accepted (r .answer) ≡ true → explained r after .explanation ≡ explanation (standing-run true (decode file) budget (length (before .trace) / 8))

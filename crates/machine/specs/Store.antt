@@ -41,7 +41,7 @@ tested-row = write-row + 8
 abbrev pub bound-row : ℕ
 bound-row = tested-row + 1
 
--- of a program's own posting, while its triggers run: a row that begins with a word other than 0
+-- whether a program's own posting is under way, from its key to the end of its triggers: then the row begins with a word other than 0
 abbrev pub posting-row : ℕ
 posting-row = bound-row + 1
 

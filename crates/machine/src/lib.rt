@@ -66,10 +66,11 @@ pub const TRIGGERS_COUNT: usize = COUNTS + 8;
 pub const SCRIPT_BYTES: usize = COUNTS + 10;
 
 // All sets of a run, each a row: the places that are present, those that are public, eight users' read sets and write sets, the two sets of a
-// stop, what is kept of a posting until it ends, and the labels of the 512 cells. The labels are last, so that a place that is none would not find another set.
+// stop, what is kept of a posting until it ends, and the labels of the 512 cells. The labels are last, so that a place that is none would not
+// find another set.
 pub type Sets = [[u64; 8]; SET_ROWS];
 
-// The rows of sets; those of rights and labels are the first of theirs.
+// The rows of sets; those of rights, of kept amounts and of labels are the first of theirs.
 pub const PRESENT: usize = 0;
 
 pub const PUBLIC: usize = 1;
@@ -83,7 +84,7 @@ pub const TESTED: usize = WRITE + 8;
 
 pub const BOUND: usize = TESTED + 1;
 
-// Of a program's own posting, while its triggers run: a row that begins with a word other than 0.
+// Whether a program's own posting is under way, from its key to the end of its triggers: then the row begins with a word other than 0.
 pub const POSTING: usize = BOUND + 1;
 
 // What that posting needs to be taken back: the places whose cells are kept, as they were when first touched; all places that were present

@@ -314,7 +314,7 @@ put-fires triggers shown = leaves (run-list (failing [] (program 0 4 ∷ []) tri
 
 unfoldable pub failures : List Leaving
 failures =
-    -- no stop: the put, the put and the clear of its trigger stay; 4, and 15 with puts of 4 and 3
+    -- no stop: the put, the put and the clear of its trigger stay; 4, and 15 with a put of 4 and a clear of 3
     leaves (run-list (failing [] (program 0 4 ∷ []) (trigger 0 1 0 15 ∷ [])) (shows 0 0 12 0 [])) (now-2 ∷ now-absent ∷ now-2 ∷ start-2 ∷ [])
     -- a stop in the first trigger, which has written (1,1,0): 4, and 12 with twice 4
     ∷ put-fires (trigger 0 1 0 12 ∷ []) (shows 23 11 13 0 [])

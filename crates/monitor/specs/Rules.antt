@@ -1,6 +1,6 @@
 -- The rules: what a run of a book does, as one total definition.
 -- `exec` and `eval` recurse on fuel alone. Each entry to a node costs at least 1, so that a run whose fuel is its budget never
--- runs out of it before it stops with 21 (proofs/Fuel.antt).
+-- runs out of it before it stops with 21 (claims/proofs/Fuel.antt).
 use mathlib.Core.List.{List, [], _∷_, _++_}
 use mathlib.Core.Bool.{Bool, true, false, _&&_, cond}
 use Prim.Native.Nat.{ℕ, zero, suc, _+_, _-_, _*_}
@@ -254,9 +254,10 @@ module _ (book : Book) where
     abbrev labels : Bool
     labels = mode .labels
 
-    -- A stop inside a trigger's body takes back the program's own put or clear that began it: its cell, all cells that its triggers wrote, and
-    -- their labels are as before that command. A command in a trigger's body has numbers above some trigger's, so that none of these is taken
-    -- back by itself. Before the triggers no stop finds a cell written: the whole command may be such a run.
+    -- Where the run stops inside a trigger's body, the program's own put or clear that began it is taken back: the cell that it wrote and all that
+    -- its triggers wrote are what they were when that command began, labels too. Its own commands fire triggers from 0 on; those of a trigger's body
+    -- do not, and are never taken back by themselves. A put or clear that stops before its triggers has written nothing, so that the whole command
+    -- may be a run whose cells come back.
     abbrev pub taking-back : Env → M (Unit {0}) → M (Unit {0})
     taking-back e m = undoing (mode .undoes && eqb (e .above) 0) m
 

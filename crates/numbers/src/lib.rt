@@ -1,4 +1,4 @@
-// Numbers in the bytes of a file, lowest byte first.
+// Numbers in the bytes of a file, lowest byte first; signed numbers and their 32 bits.
 ghost use mathlib.Core.Path.{_≡_};
 ghost use Prim.Native.Nat.{_+_, _≤_, _<_};
 ghost use lib.ListN.{length};

@@ -52,7 +52,7 @@ fn marked(event: u8, word: u64, bit: u64) -> u64
     word ^ (word & bit)
 }
 
-// The cell at `place` becomes an amount, or absent, with a label; as it was it is kept. The two slices tell the proof how long the arrays are.
+// The cell at `place` becomes an amount, or absent, with a label; what it was is kept first. The two slices tell the proof how long the arrays are.
 fn store_cell(
     amounts: &mut [i32; 512],
     sets: &mut Sets,

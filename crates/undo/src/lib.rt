@@ -7,7 +7,8 @@ ghost use Prim.Native.Nat.{_<_};
 ghost use Rattle.machine.specs.Store.{idle, kept-amount};
 ghost use Rattle.undo.specs.Undo.{Begins, Keeps, TakesBack, Ends};
 
-// Begins a posting, unless one is under way, and says whether it did: nothing is touched yet, and all that is present is kept.
+// Begins a posting, unless one is under way, and says whether it did: nothing is touched yet, and which places are present is kept. The slice tells
+// the proof how many rows there are.
 pub fn begin(sets: &mut Sets) -> bool
     ensures { λ r. ⌜ (r ≡ idle (now (sets .entry))) × (r ≡ true → Begins (now (sets .entry)) (now (sets .exit)))
         × (r ≡ false → now (sets .exit) ≡ now (sets .entry)) ⌝ }
@@ -25,7 +26,8 @@ pub fn begin(sets: &mut Sets) -> bool
     true
 }
 
-// Keeps the cell at `place` as it is, unless the posting has touched it before.
+// Keeps the cell at `place` as it is, unless the posting has touched it before. The slice, and `eight` of two rows, tell the proof how many
+// rows there are, and how many words those two have.
 pub fn keep(amounts: &[i32; 512], sets: &mut Sets, place: usize)
     requires { ⌜ place < 512 ⌝ }
     ensures { λ _. ⌜ Keeps (now (amounts .entry)) (now (sets .entry)) place (now (sets .exit)) ⌝ }
@@ -57,7 +59,8 @@ fn kept_amount(sets: &Sets, place: usize) -> i32
     numbers::signed((word % 4294967296) as u32)
 }
 
-// Makes all cells what they were when the posting began. A stop ends the run, so that this is done once at most.
+// Makes all cells what they were when the posting began. A stop ends the run, so that this is done once at most. The slices and `eight` tell
+// the proof how long the arrays are.
 fn take_back(amounts: &mut [i32; 512], sets: &mut Sets)
     ensures { λ _. ⌜ TakesBack (now (amounts .entry)) (now (sets .entry)) (now (amounts .exit)) (now (sets .exit)) ⌝ }
 {
@@ -79,7 +82,7 @@ fn take_back(amounts: &mut [i32; 512], sets: &mut Sets)
     }
 }
 
-// Ends the posting that is under way; one that stopped is taken back.
+// Ends the posting that is under way; one that stopped is taken back. The slice tells the proof how many rows there are.
 pub fn end(outcome: Outcome, amounts: &mut [i32; 512], sets: &mut Sets)
     ensures { λ _. ⌜ Ends outcome (now (amounts .entry)) (now (sets .entry)) (now (amounts .exit)) (now (sets .exit)) ⌝ }
 {
