@@ -4,6 +4,7 @@
 pub mod book;
 pub mod builder;
 mod case_lines;
+pub mod comparison_cases;
 mod decode;
 pub mod deepest;
 pub mod edges;

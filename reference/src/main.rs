@@ -1,6 +1,7 @@
 //! The command line.
 
 use reference::book::{Book, Refusal};
+use reference::comparison_cases;
 use reference::deepest::{self, Link};
 use reference::edges;
 use reference::format_cases;
@@ -16,15 +17,17 @@ use std::path::Path;
 use std::process::ExitCode;
 
 const USAGE: &str = "usage: reference run|explain|assemble|list [FILE]
-       reference cases|deepest|edges FOLDER
-  run       run the book in FILE, or in standard input, and list what it does
-  explain   do the same, and name the place for which a test on labels failed
-  assemble  write the book that a text describes
-  list      write the text that describes a book
-  cases     write cases for readers, writers and runners of books to FOLDER/stdin,
-            and the lines that these cases have to give to FOLDER/stdout
-  deepest   write the books that nest deepest to FOLDER
-  edges     write books at the edges of what `run` allows to FOLDER";
+       reference cases|comparisons|deepest|edges FOLDER
+  run          run the book in FILE, or in standard input, and list what it does
+  explain      do the same, and name the place for which a test on labels failed
+  assemble     write the book that a text describes
+  list         write the text that describes a book
+  cases        write cases for readers, writers and runners of books to FOLDER/stdin,
+               and the lines that these cases have to give to FOLDER/stdout
+  comparisons  write pairs of sets of places to FOLDER/stdin, and the lines that
+               comparing them has to give to FOLDER/stdout
+  deepest      write the books that nest deepest to FOLDER
+  edges        write books at the edges of what `run` allows to FOLDER";
 
 /// Exit code for a text with a fault and for a book that is refused. Only `run`
 /// and `explain` list a refused book, or one that stops, with exit code 0.
@@ -81,6 +84,7 @@ fn dispatch(arguments: &[OsString]) -> Result<(), Failure> {
         Some("assemble") => assemble(file),
         Some("list") => list(file),
         Some("cases") => write_cases(file),
+        Some("comparisons") => write_comparisons(file),
         Some("deepest") => write_deepest(file),
         Some("edges") => write_edges(file),
         _ => {
@@ -122,6 +126,18 @@ fn write_cases(folder: Option<&Path>) -> Result<(), Failure> {
     let stream = [format_cases::stream(&format), run_cases::stream(&run)].concat();
     output(&folder.join("stdin"), &stream)?;
     let answers = format_cases::answers(&format) + &on_deep_stack(|| run_cases::answers(&run));
+    output(&folder.join("stdout"), answers.as_bytes())
+}
+
+/// The pairs, and then the first again but for its last byte: what is no whole
+/// pair has no line.
+fn write_comparisons(folder: Option<&Path>) -> Result<(), Failure> {
+    let folder = named(folder)?;
+    let pairs = comparison_cases::all();
+    let mut stream = comparison_cases::stream(&pairs);
+    stream.extend_from_within(..127);
+    output(&folder.join("stdin"), &stream)?;
+    let answers = comparison_cases::answers(&pairs);
     output(&folder.join("stdout"), answers.as_bytes())
 }
 

@@ -11,6 +11,15 @@ pub fn place(table: u8, owner: u8, line: u8) -> usize {
 #[derive(Clone, Copy, Debug, Default, PartialEq, Eq)]
 pub struct Places(pub [u64; 8]);
 
+/// What comparing one set with another answers.
+#[derive(Clone, Copy, Debug, PartialEq, Eq)]
+pub struct Comparison {
+    /// Whether every member of the one is also in the other.
+    pub inside: bool,
+    /// How many words were looked at to tell.
+    pub looked_at: usize,
+}
+
 impl Places {
     pub const EMPTY: Places = Places([0; 8]);
 
@@ -47,12 +56,25 @@ impl Places {
         self.0[place / 64] >> (place % 64) & 1 == 1
     }
 
+    /// Looks for members that `other` lacks, from word 0 up, and no further than
+    /// the first word that has one.
+    pub fn compare(&self, other: &Places) -> Comparison {
+        let mut words = self.0.iter().zip(&other.0);
+        match words.position(|(own, theirs)| own & !theirs != 0) {
+            Some(word) => Comparison {
+                inside: false,
+                looked_at: word + 1,
+            },
+            None => Comparison {
+                inside: true,
+                looked_at: self.0.len(),
+            },
+        }
+    }
+
     /// Whether every member is also in `other`.
     pub fn within(&self, other: &Places) -> bool {
-        self.0
-            .iter()
-            .zip(&other.0)
-            .all(|(own, theirs)| own & !theirs == 0)
+        self.compare(other).inside
     }
 
     pub fn add(&mut self, other: &Places) {
@@ -119,6 +141,29 @@ mod tests {
         let mut rest = both;
         rest.remove(&low);
         assert_eq!(rest, Places::single(511));
+    }
+
+    /// What the set with these words compares to, with one that has 6 in every
+    /// word.
+    fn compared(words: [u64; 8]) -> (bool, usize) {
+        let Comparison { inside, looked_at } = Places(words).compare(&Places([6; 8]));
+        (inside, looked_at)
+    }
+
+    #[test]
+    fn a_missing_place_ends_a_comparison_at_its_word() {
+        assert_eq!(compared([1, 0, 0, 0, 0, 0, 0, 0]), (false, 1));
+        assert_eq!(compared([6, 6, 14, 6, 6, 6, 6, 6]), (false, 3));
+        assert_eq!(compared([0, 2, 4, 0, 7, 6, 0, 1]), (false, 5));
+        assert_eq!(compared([6, 0, 6, 0, 6, 0, 6, 1 << 63]), (false, 8));
+        assert_eq!(compared([u64::MAX; 8]), (false, 1));
+    }
+
+    #[test]
+    fn a_comparison_without_a_missing_place_looks_at_every_word() {
+        assert_eq!(compared([6; 8]), (true, 8));
+        assert_eq!(compared([0; 8]), (true, 8));
+        assert_eq!(compared([2, 4, 6, 0, 0, 6, 4, 2]), (true, 8));
     }
 
     #[test]

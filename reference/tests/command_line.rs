@@ -1,6 +1,6 @@
 //! The command-line program.
 
-use reference::{format_cases, run_cases};
+use reference::{comparison_cases, format_cases, run_cases};
 use std::io::Write;
 use std::path::{Path, PathBuf};
 use std::process::{Command, Output, Stdio};
@@ -92,10 +92,29 @@ fn cases_go_to_a_folder() {
     assert_eq!(output.status.code(), Some(0));
 }
 
+/// What follows the last whole pair has no line.
+#[test]
+fn comparisons_go_to_a_folder() {
+    let folder = temporary("comparisons");
+    fs::create_dir(&folder).unwrap();
+    let output = reference(&["comparisons".as_ref(), &folder], b"");
+    let stdin = fs::read(folder.join("stdin")).unwrap();
+    let stdout = fs::read_to_string(folder.join("stdout")).unwrap();
+    fs::remove_dir_all(&folder).unwrap();
+    let pairs = comparison_cases::all();
+    let (whole, rest) = stdin.split_at(128 * pairs.len());
+    assert_eq!(whole, comparison_cases::stream(&pairs));
+    assert_eq!(rest.len(), 127);
+    assert_eq!(stdout, comparison_cases::answers(&pairs));
+    assert_eq!(stdout.lines().count(), pairs.len());
+    assert_eq!(output.stdout, b"");
+    assert_eq!(output.status.code(), Some(0));
+}
+
 #[test]
 fn a_missing_file_is_named() {
     let path = temporary("missing");
-    for command in ["run", "explain", "cases"] {
+    for command in ["run", "explain", "cases", "comparisons"] {
         let output = reference(&[command.as_ref(), &path], b"");
         let message = String::from_utf8(output.stderr).unwrap();
         assert!(message.contains(path.to_str().unwrap()), "{message}");
@@ -106,10 +125,11 @@ fn a_missing_file_is_named() {
 
 #[test]
 fn other_command_lines_show_the_usage() {
-    let lines: [&[&Path]; 5] = [
+    let lines: [&[&Path]; 6] = [
         &[],
         &["unknown".as_ref()],
         &["cases".as_ref()],
+        &["comparisons".as_ref()],
         &["run".as_ref(), "one".as_ref(), "two".as_ref()],
         &["explain".as_ref(), "one".as_ref(), "two".as_ref()],
     ];

@@ -43,8 +43,8 @@ pub fn assign(
     let p = numbers::byte_at(code, at + 1);
     let context = *ctx;
     let old = tags[p];
-    let fine = places::within(context, old);
-    if !fine {
+    let compared = places::within(context, old);
+    if !compared.inside {
         return machine::stop_outside(run, sets, 25, n, ctx, &tags[p]);
     }
     vars[p] = amount;
@@ -72,8 +72,8 @@ pub fn raise(
     let p = numbers::byte_at(code, at + 1);
     let context = *ctx;
     let held = tags[p];
-    let inside = places::within(context, held);
-    if !inside {
+    let compared = places::within(context, held);
+    if !compared.inside {
         return machine::stop_outside(run, sets, 25, n, ctx, &held);
     }
     let region = machine::region_places(code, numbers::u16_at(code, at + 2));

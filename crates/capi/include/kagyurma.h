@@ -3,7 +3,7 @@
  * All memory is the caller's. Each pointer comes with the number of its elements; it is not null, even where that number is 0,
  * and no two of them overlap where one is written. No function keeps a pointer, allocates memory, or fails in another way than
  * its answer says, given stack enough: a proof says nothing of the stack. kagyurma_run and kagyurma_explain need up to 8 MiB of
- * it (the book that nests deepest takes 4.3 MB). A refused call leaves lent memory as it was.
+ * it (the book that nests deepest takes 4.1 MB). A refused call leaves lent memory as it was.
  *
  * Lent memory has exactly 512 amounts, one for each place (64 * table + 8 * owner + line); 8 presence words, with bit
  * 8 * owner + line of word `table` for a place; and 4096 label words, 8 for each place, with the same bits. Any other number of

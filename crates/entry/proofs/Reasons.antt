@@ -2,15 +2,14 @@
 use mathlib.Core.Path.{_≡_, refl, sym, ap, _∙_, subst}
 use mathlib.Core.List.{List}
 use mathlib.Core.Bool.{Bool, true, false, _&&_, not, cond, true≢false, false≢true}
-use mathlib.Core.Logic.{_↔_}
-use mathlib.Core.Option.{Option, none, some}
-use Prim.Native.Nat.{ℕ, _/_, _<_}
+use mathlib.Core.Option.{none}
+use Prim.Native.Nat.{ℕ, _/_}
 use native.Mathlib.Omega.{arith}
 use lib.ListN.{length}
 use borrow.Author.Tests.{not-true}
-use Rattle.places.specs.Sets.{has, union, tally, least, within}
+use Rattle.places.specs.Sets.{has, union, least, within}
 use Rattle.places.proofs.Sets.{has-below, within-members}
-use Rattle.places.proofs.Counting.{None, tally-none, Least, found, missing, least-is}
+use Rattle.places.proofs.Counting.{some-none, picked, none-picked, least-tally}
 use Rattle.book.proofs.Chains.{both}
 use Rattle.book.specs.Records.{Book}
 use Rattle.book.specs.Refusals.{node-at}
@@ -33,42 +32,9 @@ use Rattle.entry.specs.Entry.{Runs}
 use Rattle.entry.specs.Claims.{StopsWith, TrueOf, TrueReason}
 use Rattle.entry.proofs.Values.{run-values}
 
--- ---- constructors that differ
-
-some-none : {A : Type 0} {p : ℕ} → _≡_ {A = Option ℕ} (some p) none → A
-some-none e = let z : _≡_ {A = ℕ} 0 1 = cc in absurd (omega arith)
-
+-- answers that differ
 refused-accepted : {A : Type 0} {n i : ℕ} → verdicts.Refused n i ≡ verdicts.Accepted → A
 refused-accepted e = let z : _≡_ {A = ℕ} 0 1 = cc in absurd (omega arith)
-
--- ---- a predicate: the least place that it picks, and how many it picks
-
-module _ (f : ℕ → Bool) (n : ℕ) where
-  none-picked : least f n ≡ none → None f n
-  none-picked e = go (least-is f n) e
-    where
-      go : {o : Option ℕ} → Least f n o → o ≡ none → None f n
-      go (found l m h) q = absurd (some-none q)
-      go (missing h) q = h
-
-  no-least : None f n → least f n ≡ none
-  no-least h = go (least-is f n)
-    where
-      go : {o : Option ℕ} → Least f n o → o ≡ none
-      go (found l m w) = absurd (true≢false (sym m ∙ h _ l))
-      go (missing w) = refl
-
-  pub least-tally : (least f n ≡ none) ↔ (tally f n ≡ 0)
-  least-tally = (λ e. tally-none f n .1 (none-picked e), λ e. no-least (tally-none f n .0 e))
-
-  pub picked : (p : ℕ) → least f n ≡ some p → (p < n) × (f p ≡ true) × None f p
-  picked p e = go (least-is f n) e
-    where
-      go : {o : Option ℕ} → Least f n o → o ≡ some p → (p < n) × (f p ≡ true) × None f p
-      go (found {p = r} l m h) q =
-          let e : r ≡ p = cc in
-          (rw e at l, rw e at m, rw e at h)
-      go (missing h) q = absurd (some-none (sym q))
 
 -- ---- the sets of a stop
 

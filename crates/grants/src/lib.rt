@@ -109,8 +109,8 @@ pub fn change(
     }
     let context = *ctx;
     let everyone = sets[machine::PUBLIC];
-    let open = places::within(context, everyone);
-    if !open {
+    let compared = places::within(context, everyone);
+    if !compared.inside {
         return machine::stop_outside(run, sets, 29, n, ctx, &everyone);
     }
     let used = run[machine::USED] as usize;

@@ -39,8 +39,8 @@ pub fn out(
     let user = numbers::byte_at(code, at + 1);
     let everyone = sets[machine::PUBLIC];
     let readable = places::union(everyone, sets[machine::READ + user]);
-    let fine = places::within(label, readable);
-    if !fine {
+    let compared = places::within(label, readable);
+    if !compared.inside {
         return machine::stop_outside(run, sets, 27, n, &label, &readable);
     }
     let all: &[u32] = run;

@@ -1,10 +1,11 @@
--- The number of members and the lowest member, for any number of words.
+-- How many numbers a predicate picks and which is the least; the number of members and the lowest member, for any number of words.
 use mathlib.Core.Path.{_≡_, refl, sym, ap, _∙_}
 use mathlib.Core.List.{List}
-use mathlib.Core.Bool.{Bool, true, false, cond}
+use mathlib.Core.Bool.{Bool, true, false, cond, true≢false}
 use mathlib.Core.Option.{Option, none, some}
 use mathlib.Core.Logic.{_↔_, ⊎-elim}
-use Prim.Native.Nat.{ℕ, zero, suc, _*_, _<_}
+use Prim.Native.Nat.{ℕ, zero, suc, _+_, _*_, _<_}
+use native.Mathlib.Decide.{decLt}
 use native.Mathlib.Nat.{not-suc-le-zero, le-of-suc-le-suc, eq-or-lt-of-le}
 use native.Mathlib.Omega.{arith}
 use lib.ListN.{length}
@@ -16,6 +17,10 @@ use Rattle.places.proofs.Sets.{has-below}
 -- none below n is picked
 abbrev pub None : (ℕ → Bool) → ℕ → Type 0
 None f n = (k : ℕ) → k < n → f k ≡ false
+
+-- one more that is not picked
+pub none-next : (f : ℕ → Bool) (n : ℕ) → None f n → f n ≡ false → None f (n + 1)
+none-next f n h e k l = ⊎-elim (λ (q : k ≡ n). ap f q ∙ e) (λ (j : k < n). h k j) (eq-or-lt-of-le (omega arith))
 
 pub tally-none : (f : ℕ → Bool) (n : ℕ) → (tally f n ≡ 0) ↔ None f n
 unfolding tally
@@ -53,10 +58,57 @@ least-is f (suc n) = more (least-is f n) (f n) refl
     more (found {p = r} l e h) b q = found {p = r} (omega arith) e h
     more (missing h) b q = last h b q
 
--- ---- of a set
+-- an option that is some is not none
+pub some-none : {A : Type 0} {p : ℕ} → _≡_ {A = Option ℕ} (some p) none → A
+some-none e = let z : _≡_ {A = ℕ} 0 1 = cc in absurd (omega arith)
 
-none-some : {p : ℕ} → _≡_ {A = Option ℕ} none (some p) → ⊥
-none-some e = let z : _≡_ {A = ℕ} 0 1 = cc in omega arith
+module _ (f : ℕ → Bool) (n : ℕ) where
+  -- picked and not picked
+  clash : {A : Type 0} (k : ℕ) → f k ≡ true → f k ≡ false → A
+  clash k x y = absurd (true≢false (sym x ∙ y))
+
+  -- the least is picked, and none below it
+  pub picked : (p : ℕ) → least f n ≡ some p → (p < n) × (f p ≡ true) × None f p
+  picked p e = go (least-is f n) e
+    where
+      go : {o : Option ℕ} → Least f n o → o ≡ some p → (p < n) × (f p ≡ true) × None f p
+      go (found {p = r} l m h) q =
+          let e : r ≡ p = cc in
+          (rw e at l, rw e at m, rw e at h)
+      go (missing h) q = some-none (sym q)
+
+  -- and one that is so is the least
+  pub least-found : (p : ℕ) → p < n → f p ≡ true → None f p → least f n ≡ some p
+  least-found p l m h = go (least-is f n)
+    where
+      same : (r : ℕ) → f r ≡ true → None f r → Dec (r < p) → Dec (p < r) → r ≡ p
+      same r x w (yes s) t = clash r x (h r s)
+      same r x w (no s) (yes t) = clash p m (w p t)
+      same r x w (no s) (no t) = omega arith
+
+      go : {o : Option ℕ} → Least f n o → o ≡ some p
+      go (found {p = r} k x w) = ap some (same r x w (decLt r p) (decLt p r))
+      go (missing w) = clash p m (w p l)
+
+  -- there is no least just where none is picked
+  pub none-picked : least f n ≡ none → None f n
+  none-picked e = go (least-is f n) e
+    where
+      go : {o : Option ℕ} → Least f n o → o ≡ none → None f n
+      go (found l m h) q = some-none q
+      go (missing h) q = h
+
+  pub no-least : None f n → least f n ≡ none
+  no-least h = go (least-is f n)
+    where
+      go : {o : Option ℕ} → Least f n o → o ≡ none
+      go (found {p = r} l m w) = clash r m (h r l)
+      go (missing w) = refl
+
+  pub least-tally : (least f n ≡ none) ↔ (tally f n ≡ 0)
+  least-tally = (λ e. tally-none f n .1 (none-picked e), λ e. no-least (tally-none f n .0 e))
+
+-- ---- of a set
 
 -- no place is a member where none below the set's end is
 pub no-members : (s : List ℕ) → None (has s) (64 * length s) → (p : ℕ) → has s p ≡ false
@@ -73,19 +125,11 @@ size-zero s = (λ e. no-members s (tally-none (has s) (64 * length s) .0 e), λ 
 -- the lowest member is a member, and no lower place is
 pub lowest-some : (s : List ℕ) (p : ℕ) → lowest s ≡ some p → (has s p ≡ true) × ((q : ℕ) → q < p → has s q ≡ false)
 unfolding lowest
-lowest-some s p e = go (least-is (has s) (64 * length s)) e
-  where
-    go : {o : Option ℕ} → Least (has s) (64 * length s) o → o ≡ some p → (has s p ≡ true) × ((q : ℕ) → q < p → has s q ≡ false)
-    go (found {p = r} l m h) q =
-        let e : r ≡ p = cc in
-        (rw e at m, rw e at h)
-    go (missing h) q = absurd (none-some q)
+lowest-some s p e =
+    let least-one = picked (has s) (64 * length s) p e in
+    (least-one .1, least-one .2)
 
 -- where there is no lowest member, there is no member
 pub lowest-none : (s : List ℕ) → lowest s ≡ none → (p : ℕ) → has s p ≡ false
 unfolding lowest
-lowest-none s e = go (least-is (has s) (64 * length s)) e
-  where
-    go : {o : Option ℕ} → Least (has s) (64 * length s) o → o ≡ none → (p : ℕ) → has s p ≡ false
-    go (found l m h) q = absurd (none-some (sym q))
-    go (missing h) q = no-members s h
+lowest-none s e = no-members s (none-picked (has s) (64 * length s) e)

@@ -1,16 +1,12 @@
 -- One turn of a loop over words, and its end.
 use mathlib.Core.Path.{_≡_, _∙_}
 use mathlib.Core.List.{List, _++_, append-nil}
-use mathlib.Core.Bool.{_&&_, true}
 use Prim.Native.Nat.{ℕ, suc, _+_, _≤_, _<_}
 use native.Mathlib.Nat.{zero-add}
 use native.Mathlib.Numerals.{add-one}
 use native.Mathlib.Omega.{arith}
-use lib.Bits.{bitOr}
-use lib.Dec.{eqb}
 use lib.ListN.{length, getD, take, drop, set, drop-of-length-le}
-use lib.Seq.{drop-cons, take-all, paste, paste-suc}
-use Rattle.places.specs.Sets.{within}
+use lib.Seq.{take-all, paste, paste-suc}
 
 -- ---- a loop that fills a list from the front with another, one store a turn: after i turns it is `take i s ++ drop i d`
 
@@ -42,14 +38,3 @@ store-turn d s r at j h k q = rw (q, add-one) (paste-suc d at s j 0 h k)
 
 pub store-end : (d s r : List ℕ) (at j : ℕ) → j ≡ length s → r ≡ paste d at s j → r ≡ take at d ++ s ++ drop (at + length s) d
 store-end d s r at j e q = q ∙ rw (e, take-all (length s) s (omega arith))
-
--- ---- a loop that tests word by word: what is left from i on
-
-pub within-turn : (a b : List ℕ) (i : ℕ) → i < length a → i < length b
-    → within (drop i a) (drop i b) ≡ eqb (bitOr (getD a i 0) (getD b i 0)) (getD b i 0) && within (drop (i + 1) a) (drop (i + 1) b)
-unfolding within
-within-turn a b i h l = rw (add-one, drop-cons a i 0, drop-cons b i 0)
-
-pub within-end : (a b : List ℕ) (i : ℕ) → length a ≤ i → within (drop i a) b ≡ true
-unfolding within
-within-end a b i h = rw (drop-of-length-le a)

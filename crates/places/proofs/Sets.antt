@@ -41,7 +41,7 @@ yes-le {x} {y} h e = go (decLt 0 x)
 abbrev pub bit-at : List ℕ → ℕ → ℕ → ℕ
 bit-at s w k = bit k (getD s w 0)
 
-and-both : {s t : Bool} → s && t ≡ true → (s ≡ true) × (t ≡ true)
+pub and-both : {s t : Bool} → s && t ≡ true → (s ≡ true) × (t ≡ true)
 and-both {s = true} e = (refl, e)
 and-both {s = false} e = absurd (false≢true e)
 

@@ -1,2 +1,4 @@
 pub mod Places
 pub mod Sets
+pub mod Claims
+pub mod Examples

@@ -2,7 +2,7 @@
 -- Place p is bit p % 64 of word p / 64, which is bit 8 · owner + line of word `table`. Nothing here fixes the number of words.
 use mathlib.Core.Path.{_≡_}
 use mathlib.Core.List.{List, [], _∷_}
-use mathlib.Core.Bool.{Bool, true, _&&_, cond}
+use mathlib.Core.Bool.{Bool, true, _&&_, not, cond}
 use mathlib.Core.Option.{Option, none, some}
 use Prim.Native.Nat.{ℕ, zero, suc, _+_, _*_, _/_, _%_, _^_, _<_}
 use lib.Bits.{bitOr, bitAnd, bitXor}
@@ -89,3 +89,18 @@ least f (suc n) = or-else (least f n) (cond (f n) (some n) none)
 -- the lowest member
 unfoldable pub lowest : List ℕ → Option ℕ
 lowest s = least (has s) (64 * length s)
+
+-- ---- how far a comparison looks (02, Change 3)
+
+-- whether word w has a missing place: one of the first set that the second lacks
+abbrev pub misses : List ℕ → List ℕ → ℕ → Bool
+misses a b w = not (eqb (getD (difference a b) w 0) 0)
+
+-- as many words as there are up to and with this one; n if there is none
+abbrev pub up-to-and-with : Option ℕ → ℕ → ℕ
+up-to-and-with (some w) n = suc w
+up-to-and-with none n = n
+
+-- how many words a comparison looks at, from word 0 up: the last is the first with a missing place; where there is none, all are looked at
+unfoldable pub looked-at : List ℕ → List ℕ → ℕ
+looked-at a b = up-to-and-with (least (misses a b) (length a)) (length a)

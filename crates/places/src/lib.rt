@@ -2,7 +2,13 @@
 ghost use mathlib.Core.Path.{_≡_};
 ghost use Prim.Native.Nat.{_<_};
 ghost use lib.ListN.{length};
-ghost use Rattle.places.specs.Sets.{has, single, union, difference, within};
+ghost use Rattle.places.specs.Sets.{has, single, union, difference, within, looked-at};
+
+// What a comparison of two sets tells: whether the first lies within the second, and how many words were looked at.
+pub struct Comparison {
+    pub inside: bool,
+    pub words: usize,
+}
 
 // Tells a caller's proof that a set has eight words.
 pub fn eight(set: [u64; 8])
@@ -53,16 +59,24 @@ pub fn difference(a: [u64; 8], b: [u64; 8]) -> [u64; 8]
     set
 }
 
-// Whether each place of `a` is one of `b`.
-pub fn within(a: [u64; 8], b: [u64; 8]) -> bool
-    ensures { λ r. ⌜ r ≡ within a b ⌝ }
+// Whether each place of `a` is one of `b`. It ends at the first word with a place that `b` lacks.
+pub fn within(a: [u64; 8], b: [u64; 8]) -> Comparison
+    ensures { λ r. ⌜ (r .inside ≡ within a b) × (r .words ≡ looked-at a b) ⌝ }
 {
     let mut word: usize = 0;
     while word < 8 {
-        if a[word] | b[word] != b[word] {
-            return false;
+        let missing = a[word] ^ (a[word] & b[word]);
+        if missing != 0 {
+            let words = word + 1;
+            return Comparison {
+                inside: false,
+                words,
+            };
         }
         word += 1;
     }
-    true
+    Comparison {
+        inside: true,
+        words: 8,
+    }
 }

@@ -121,8 +121,8 @@ pub fn post(
         return stopped(run, 24, n);
     }
     let context = *ctx;
-    let fine = places::within(context, sets[machine::LABELS + place]);
-    if !fine {
+    let compared = places::within(context, sets[machine::LABELS + place]);
+    if !compared.inside {
         let old = sets[machine::LABELS + place];
         machine::stop_outside(run, sets, 26, n, ctx, &old);
         return Posted::Stopped;

@@ -1,7 +1,9 @@
 //! Puts random books, accepted and damaged, to the proved implementation and to
-//! the reference, and compares all that they answer and leave in memory.
+//! the reference, and compares all that they answer and leave in memory. Then
+//! puts random pairs of sets to both, and compares their lines.
 
 mod case;
+mod comparisons;
 mod explainer;
 mod proved;
 
@@ -14,8 +16,8 @@ use std::sync::atomic::{AtomicBool, Ordering};
 use std::thread;
 
 const USAGE: &str = "usage: differential [CASES [SEED]]
-  CASES  how many cases (default 1000000)
-  SEED   the first case's seed (default 0); the next case has the next seed";
+  CASES  how many books, and how many pairs of sets (default 1000000)
+  SEED   the first one's seed (default 0); the next one has the next seed";
 
 /// For the deepest books, in the reference.
 const STACK: usize = 256 << 20;
@@ -61,21 +63,40 @@ fn main() -> ExitCode {
             return ExitCode::from(2);
         }
     };
-    match compare(cases, seed) {
-        Some(Tally {
-            ends,
-            named,
-            took_back,
-        }) => {
-            println!("{cases} cases from seed {seed} on: no difference");
-            for (number, count) in ends {
-                println!("  {count} runs ended with {number}");
+    if compare_books(cases, seed) && compare_sets(cases, seed) {
+        return ExitCode::SUCCESS;
+    }
+    ExitCode::FAILURE
+}
+
+/// Prints what came of random books; or says on standard error what differs.
+fn compare_books(cases: u64, seed: u64) -> bool {
+    let Some(tally) = compare(cases, seed) else {
+        return false;
+    };
+    println!("{cases} cases from seed {seed} on: no difference");
+    for (number, count) in tally.ends {
+        println!("  {count} runs ended with {number}");
+    }
+    println!("  {} explained runs named a place", tally.named);
+    println!("  {} runs took a posting back", tally.took_back);
+    true
+}
+
+/// The same of random pairs of sets.
+fn compare_sets(pairs: u64, seed: u64) -> bool {
+    match comparisons::compare(pairs, seed) {
+        Ok(lines) => {
+            println!("{pairs} comparisons from seed {seed} on: no difference");
+            for (line, count) in lines {
+                println!("  {count} gave {line}");
             }
-            println!("  {named} explained runs named a place");
-            println!("  {took_back} runs took a posting back");
-            ExitCode::SUCCESS
+            true
         }
-        None => ExitCode::FAILURE,
+        Err(difference) => {
+            eprintln!("{difference}");
+            false
+        }
     }
 }
 

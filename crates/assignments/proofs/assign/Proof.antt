@@ -65,11 +65,11 @@ mul-stop-outside : tie.Need-mul-stop-outside
 mul-stop-outside c = search needs
 
 index-1-stop-outside : tie.Need-index-1-stop-outside
-index-1-stop-outside c = below (c .before .before .before .before .before .before)
+index-1-stop-outside c = below (c .before .before .before .before .before .before .before)
 
 stop-outside-requires : tie.Need-stop-outside-requires
 stop-outside-requires c κs =
-    let user = c .before .before .before .before .before .before .before in
+    let user = c .before .before .before .before .before .before .before .before in
     let child = user .before .before .before .before .before .before .before .before .before .before .before .before in
     let s = child .before .before .before .before .before .before in
     node-below _ (s .pre .0 .sound) _ (s .pre .1 .inside)
@@ -77,31 +77,31 @@ stop-outside-requires c κs =
 -- 25: the context is not within the old label
 returns-2 : tie.Need-returns-2
 returns-2 c =
-    let test = c .before .before .before .before .before in
+    let test = c .before .before .before .before .before .before in
     let user = test .before .before .before in
     let known = user .before .before .before in
     let value = known .before .before in
     let child = value .before .before .before .before .before .before .before in
     let s = child .before .before .before .before .before .before in
     λ who trace u. assign-keeps _ _ _ who _ _ _ u (s .pre) (child .u16-at .ensures .0) (value .eval .ensures) (known .amount .given .1) (user .byte-at .ensures .0)
-    (sym (test .within .ensures) ∙ not-true _ (c .before .before .before .before .if1 .taken)) (c .stop-outside .ensures)
+    (sym (test .within .ensures .0) ∙ not-true _ (c .before .before .before .before .if1 .taken)) (c .stop-outside .ensures)
 
 mul-amount : tie.Need-mul-amount
 mul-amount c = search needs
 
 element-set-from-amount : tie.Need-element-set-from-amount
-element-set-from-amount c = below (c .before .before .before .before)
+element-set-from-amount c = below (c .before .before .before .before .before)
 
 mul-t23 : tie.Need-mul-t23
 mul-t23 c = search needs
 
 element-set-from-tags : tie.Need-element-set-from-tags
-element-set-from-tags c = below (c .before .before .before .before)
+element-set-from-tags c = below (c .before .before .before .before .before)
 
 -- the variable is set
 returns-3 : tie.Need-returns-3
 returns-3 c =
-    let user = c .before .before .before .before in
+    let user = c .before .before .before .before .before in
     let known = user .before .before .before in
     let value = known .before .before in
     let child = value .before .before .before .before .before .before .before in
@@ -109,7 +109,7 @@ returns-3 c =
     let s = rows .before .before .before .before in
     λ who trace u. rw (toZ-ofZ {w = w32} (record { sfits = user .before .before .known-told .given .0 .1 }))
     (assign-sets _ _ _ who _ _ _ u (s .pre) (child .u16-at .ensures .0) (value .eval .ensures) (known .amount .given .1) (user .byte-at .ensures .0)
-    (rows .before .before .values2 .given .0) (rows .labels2 .given .0) (sym (c .before .within .ensures) ∙ not-false _ (c .if1 .left)))
+    (rows .before .before .values2 .given .0) (rows .labels2 .given .0) (sym (c .before .before .within .ensures .0) ∙ not-false _ (c .if1 .left)))
 
 pub assign-spec : {M : Type 1} → statement M
 assign-spec =

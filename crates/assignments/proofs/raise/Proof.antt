@@ -35,9 +35,9 @@ stop-outside-requires c κs = search needs
 -- 25: the context is not within the old label
 returns : tie.Need-returns
 returns c =
-    let user = c .before .before .before .before .before .before .before .before in
+    let user = c .before .before .before .before .before .before .before .before .before in
     let s = user .before .before .before .before in
-    λ who vars cells trace u. raise-keeps _ _ _ who _ _ _ u (s .pre) (user .byte-at .ensures .0) (sym (c .before .before .before .before .before .within .ensures) ∙ not-true _ (c .before .before .before .before .if1 .taken)) (c .stop-outside .ensures)
+    λ who vars cells trace u. raise-keeps _ _ _ who _ _ _ u (s .pre) (user .byte-at .ensures .0) (sym (c .before .before .before .before .before .before .within .ensures .0) ∙ not-true _ (c .before .before .before .before .if1 .taken)) (c .stop-outside .ensures)
 
 add-u16-at : tie.Need-add-u16-at
 add-u16-at c = search needs
@@ -47,7 +47,7 @@ u16-at-requires c κs = search needs
 
 region-places-requires : tie.Need-region-places-requires
 region-places-requires c κs =
-    let user = c .before .before .before .before .before .before in
+    let user = c .before .before .before .before .before .before .before in
     let s = user .before .before .before .before in
     (s .pre .0, raised-region _ _ (s .pre) (c .u16-at .ensures .0))
 
@@ -58,15 +58,15 @@ mul-t27 : tie.Need-mul-t27
 mul-t27 c = search needs
 
 element-set-from-tags : tie.Need-element-set-from-tags
-element-set-from-tags c = below (c .before .before .before .before .before .before .before .before)
+element-set-from-tags c = below (c .before .before .before .before .before .before .before .before .before)
 
 -- the region is added
 returns-2 : tie.Need-returns-2
 returns-2 c =
-    let test = c .before .before .before .before .before in
+    let test = c .before .before .before .before .before .before in
     let user = test .before .before .before in
     let s = user .before .before .before .before in
-    λ who vars cells trace u. raise-sets _ _ _ who _ _ _ u (s .pre) (user .byte-at .ensures .0) (user .before .before .labels2 .given .0) (sym (test .within .ensures) ∙ not-false _ (c .before .before .before .before .if1 .left))
+    λ who vars cells trace u. raise-sets _ _ _ who _ _ _ u (s .pre) (user .byte-at .ensures .0) (user .before .before .labels2 .given .0) (sym (test .within .ensures .0) ∙ not-false _ (c .before .before .before .before .if1 .left))
     (rw (← c .before .before .u16-at .ensures .0, ← c .before .region-places .ensures) (c .union .ensures))
 
 pub raise-spec : {M : Type 1} → statement M

@@ -31,9 +31,9 @@ stop-outside-requires c κs = search needs
 -- 29: the context is not within the public set
 returns-2 : tie.Need-returns-2
 returns-2 c =
-    let test = c .before .before .before .before .before in
+    let test = c .before .before .before .before .before .before in
     let s = test .before .before .before .before .before .before .before .before in
-    λ vars cells. change-hidden _ _ _ _ _ _ (s .pre) (test .before .before .before .if1 .left) (sym (test .within .ensures) ∙ not-true _ (c .before .before .before .before .if2 .taken)) (c .stop-outside .ensures)
+    λ vars cells. change-hidden _ _ _ _ _ _ (s .pre) (test .before .before .before .if1 .left) (sym (test .within .ensures .0) ∙ not-true _ (c .before .before .before .before .if2 .taken)) (c .stop-outside .ensures)
 
 element-copy-out-used : tie.Need-element-copy-out-used
 element-copy-out-used c = search needs
@@ -51,9 +51,9 @@ stop-requires-2 c κs = search needs
 returns-3 : tie.Need-returns-3
 returns-3 c =
     let room = c .before .before in
-    let test = room .before .before .before in
+    let test = room .before .before .before .before in
     let s = test .before .before .before .before .before .before .before .before in
-    λ vars cells. change-full _ _ _ _ _ _ (s .pre) (test .before .before .before .if1 .left) (sym (test .within .ensures) ∙ not-false _ (room .before .before .if2 .left)) (room .if3 .taken) (c .stop2 .ensures)
+    λ vars cells. change-full _ _ _ _ _ _ (s .pre) (test .before .before .before .if1 .left) (sym (test .within .ensures .0) ∙ not-false _ (room .before .before .if2 .left)) (room .if3 .taken) (c .stop2 .ensures)
 
 element-copy-out-run : tie.Need-element-copy-out-run
 element-copy-out-run c = search needs
@@ -84,7 +84,7 @@ part-alter-end c = search needs
 
 alter-requires : tie.Need-alter-requires
 alter-requires c κs =
-    let test = c .before .before .before .before .before .before .before .before in
+    let test = c .before .before .before .before .before .before .before .before .before in
     let s = test .before .before .before .before .before .before .before .before in
     let a = asks _ _ (s .pre .0 .runnable) (s .pre .1) in
     ((s .pre .0 .runnable, a .0, search needs), (a .1, search needs))
@@ -97,10 +97,10 @@ returns-4 : tie.Need-returns-4
 returns-4 c =
     let right = c .before .before .before .before .before in
     let room = right .before .before .before in
-    let test = room .before .before .before in
+    let test = room .before .before .before .before in
     let owner = test .before .before .before in
     let s = owner .before .before .before .before .before in
-    λ vars cells. change-made _ _ _ _ _ _ (s .pre) (owner .if1 .left) (sym (test .within .ensures) ∙ not-false _ (room .before .before .if2 .left)) true
+    λ vars cells. change-made _ _ _ _ _ _ (s .pre) (owner .if1 .left) (sym (test .within .ensures .0) ∙ not-false _ (room .before .before .if2 .left)) true
     (names-read _ _ (s .pre .0 .runnable) (s .pre .1) (right .if4 .taken)) (owner .before .before .all2 .given .0) (room .if3 .left) (c .before .before .alter .ensures .0) (c .before .before .alter .ensures .1)
 
 sub-alter-2 : tie.Need-sub-alter-2
@@ -114,7 +114,7 @@ part-alter-end-2 c = search needs
 
 alter-requires-2 : tie.Need-alter-requires-2
 alter-requires-2 c κs =
-    let test = c .before .before .before .before .before .before .before .before in
+    let test = c .before .before .before .before .before .before .before .before .before in
     let s = test .before .before .before .before .before .before .before .before in
     let a = asks _ _ (s .pre .0 .runnable) (s .pre .1) in
     ((s .pre .0 .runnable, a .0, search needs), (a .1, search needs))
@@ -127,10 +127,10 @@ returns-5 : tie.Need-returns-5
 returns-5 c =
     let right = c .before .before .before .before .before in
     let room = right .before .before .before in
-    let test = room .before .before .before in
+    let test = room .before .before .before .before in
     let owner = test .before .before .before in
     let s = owner .before .before .before .before .before in
-    λ vars cells. change-made _ _ _ _ _ _ (s .pre) (owner .if1 .left) (sym (test .within .ensures) ∙ not-false _ (room .before .before .if2 .left)) false
+    λ vars cells. change-made _ _ _ _ _ _ (s .pre) (owner .if1 .left) (sym (test .within .ensures .0) ∙ not-false _ (room .before .before .if2 .left)) false
     (names-write _ _ (s .pre .0 .runnable) (s .pre .1) (right .if4 .left)) (owner .before .before .all2 .given .0) (room .if3 .left) (c .before .before .alter2 .ensures .0) (c .before .before .alter2 .ensures .1)
 
 pub change-spec : {M : Type 1} → statement M

@@ -68,7 +68,7 @@ within-requires c κs = search needs
 
 stop-outside-requires : tie.Need-stop-outside-requires
 stop-outside-requires c κs =
-    let user = c .before .before .before .before .before .before .before .before .before in
+    let user = c .before .before .before .before .before .before .before .before .before .before in
     let child = user .before .before .before .before .before .before .before .before .before .before in
     let s = child .before .before .before in
     node-below _ (s .pre .0 .runnable .sound) _ (s .pre .1 .0 .inside)
@@ -76,27 +76,39 @@ stop-outside-requires c κs =
 -- 27: the user may not read the value
 returns-2 : tie.Need-returns-2
 returns-2 c =
-    let test = c .before .before .before .before .before .before in
+    let test = c .before .before .before .before .before .before .before in
     let user = test .before .before .before .before in
     let value = user .before .before .before .before .before in
     let child = value .before .before .before .before .before in
     let s = child .before .before .before in
     λ who. out-hidden _ _ _ who _ _ (s .pre) (child .u16-at .ensures .0) (value .eval .ensures) (user .before .before .before .amount .given .1) (user .byte-at .ensures .0)
-    (sym (test .within .ensures ∙ ap (within _) (test .before .union .ensures)) ∙ not-true _ (c .before .before .before .before .before .if1 .taken))
+    (sym (test .within .ensures .0 ∙ ap (within _) (test .before .union .ensures)) ∙ not-true _ (c .before .before .before .before .before .if1 .taken))
     (rw (← test .before .union .ensures) (c .stop-outside .ensures))
 
 element-copy-out-used : tie.Need-element-copy-out-used
 element-copy-out-used c = search needs
 
+-- back to the value
+abbrev value-of : tie.After-used → tie.After-eval
+value-of c = c .before .before .before .before .before .before .before .before .before .before .before .before .before .before
+
+-- and to the start
+abbrev start-of : tie.After-eval → tie.Start
+start-of c = c .before .before .before .before .before .before .before .before
+
 cast-used : tie.Need-cast-used
-cast-used c = search needs
+cast-used c =
+    let s = start-of (value-of c) in
+    omega (arith, s .pre .0 .short, s .pre .0 .room, value-of c .eval .ensures .used-same)
 
 add-if2 : tie.Need-add-if2
-add-if2 c = search needs
+add-if2 c =
+    let s = start-of (value-of c) in
+    omega (arith, s .pre .0 .short, s .pre .0 .room, value-of c .eval .ensures .used-same)
 
 stop-requires : tie.Need-stop-requires
 stop-requires c κs =
-    let user = c .before .before .before .before .before .before .before .before .before .before in
+    let user = c .before .before .before .before .before .before .before .before .before .before .before in
     let child = user .before .before .before .before .before .before .before .before .before .before in
     let s = child .before .before .before in
     node-below _ (s .pre .0 .runnable .sound) _ (s .pre .1 .0 .inside)
@@ -104,13 +116,13 @@ stop-requires c κs =
 -- 30: the trace is full
 returns-3 : tie.Need-returns-3
 returns-3 c =
-    let test = c .before .before .before .before .before .before .before in
+    let test = c .before .before .before .before .before .before .before .before in
     let user = test .before .before .before .before in
     let value = user .before .before .before .before .before in
     let child = value .before .before .before .before .before in
     let s = child .before .before .before in
     λ who. out-full _ _ _ who _ _ (s .pre) (child .u16-at .ensures .0) (value .eval .ensures) (user .before .before .before .amount .given .1) (user .byte-at .ensures .0)
-    (sym (test .within .ensures ∙ ap (within _) (test .before .union .ensures)) ∙ not-false _ (c .before .before .before .before .before .before .if1 .left)) (c .before .before .if2 .taken) (c .stop .ensures)
+    (sym (test .within .ensures .0 ∙ ap (within _) (test .before .union .ensures)) ∙ not-false _ (c .before .before .before .before .before .before .if1 .left)) (c .before .before .if2 .taken) (c .stop .ensures)
 
 bits-of-requires : tie.Need-bits-of-requires
 bits-of-requires c κs = search needs
@@ -135,7 +147,7 @@ element-copy-out-run c = search needs
 
 add-run : tie.Need-add-run
 add-run c =
-    let value = c .before .before .before .before .before .before .before .before .before .before .before .before .before .before .before .before .before .before .before .before in
+    let value = c .before .before .before .before .before .before .before .before .before .before .before .before .before .before .before .before .before .before .before .before .before in
     let child = value .before .before .before .before .before in
     let s = child .before .before .before in
     omega (arith, s .pre .0 .short, s .pre .0 .room, value .eval .ensures .used-same)
@@ -151,13 +163,13 @@ returns-4 : tie.Need-returns-4
 returns-4 c =
     let put = c .before .before .before in
     let room = put .before .before .before in
-    let test = room .before .before .before .before .before in
+    let test = room .before .before .before .before .before .before in
     let user = test .before .before .before .before in
     let value = user .before .before .before .before .before in
     let child = value .before .before .before .before .before in
     let s = child .before .before .before in
     λ who. out-tells _ _ _ who (vars-of (s .args .vars .now) (s .args .tags .now)) _ (s .pre) (child .u16-at .ensures .0) (value .eval .ensures) (user .before .before .before .amount .given .1) (user .byte-at .ensures .0)
-    (sym (test .within .ensures ∙ ap (within _) (test .before .union .ensures)) ∙ not-false _ (room .before .before .before .before .if1 .left)) (room .before .before .all2 .given .0) (room .if2 .left) (put .put-record .ensures)
+    (sym (test .within .ensures .0 ∙ ap (within _) (test .before .union .ensures)) ∙ not-false _ (room .before .before .before .before .if1 .left)) (room .before .before .all2 .given .0) (room .if2 .left) (put .put-record .ensures)
     (put .before .before .bits-of .ensures ∙ ap bits32 (toZ-ofZ {w = w32} {z = user .before .before .before .amount .given .0 .0} (record { sfits = user .before .before .known-told .given .0 .1 })))
 
 pub out-spec : {M : Type 1} → statement M

@@ -1,65 +1,60 @@
--- `places::within` meets its contract: what is left to test from a word on decides the whole.
-use mathlib.Core.Path.{_≡_, refl, sym, _∙_}
-use mathlib.Core.Bool.{_&&_}
+-- `places::within` meets its contract: no word so far has a missing place.
+use mathlib.Core.Path.{_≡_, sym, ap, _∙_}
+use mathlib.Core.Bool.{true, not}
 use mathlib.Core.List.{List}
-use Prim.Native.Nat.{ℕ, _+_, _≤_, _-_}
-use lib.Bits.{bitOr}
-use lib.Dec.{eqb}
-use lib.ListN.{drop, getD}
-use borrow.Author.Tests.{eq-eqb, ne-eqb}
-use Rattle.places.specs.Sets.{within}
-use Rattle.places.proofs.Loops.{within-turn, within-end}
-use borrow.Author.Needs.{needs}
+use Prim.Native.Nat.{ℕ, _≤_, _-_}
+use native.Mathlib.Nat.{not-suc-le-zero}
+use native.Mathlib.Numerals.{add-one}
 use native.Mathlib.Omega.{arith}
+use lib.ListN.{length}
+use borrow.Author.Needs.{needs}
+use borrow.Author.Tests.{eq-eqb, ne-eqb}
+use Rattle.places.specs.Sets.{misses}
+use Rattle.places.proofs.Counting.{None, none-next}
+use Rattle.places.proofs.Comparing.{misses-word, ends-at, ends-past}
 use Rattle.places.proofs.within.Statement.{statement}
 use Rattle.places.proofs.within.Tie as tie
 
 abbrev Inv-loop : tie.InvT-loop
-Inv-loop a b word₀ word = (word ≤ 8) × (within (drop word a) (drop word b) ≡ within a b)
+Inv-loop a b word₀ word = (word ≤ 8) × None (misses a b) word
 
 abbrev μ-loop : tie.MeasureT-loop
 μ-loop a b word₀ word = 8 - word
 
 loop-holds : tie.Need-loop-holds Inv-loop μ-loop
-loop-holds c = (search needs, refl)
+loop-holds c = (search needs, λ k h. absurd (not-suc-le-zero h))
 
-mul-if1 : tie.Need-mul-if1 Inv-loop μ-loop
-mul-if1 c = search needs
+mul-missing : tie.Need-mul-missing Inv-loop μ-loop
+mul-missing c = search needs
 
-array-read-if1 : tie.Need-array-read-if1 Inv-loop μ-loop
-array-read-if1 c = search needs
+array-read-missing : tie.Need-array-read-missing Inv-loop μ-loop
+array-read-missing c = search needs
 
-mul-if1-2 : tie.Need-mul-if1-2 Inv-loop μ-loop
-mul-if1-2 c = search needs
+mul-missing-2 : tie.Need-mul-missing-2 Inv-loop μ-loop
+mul-missing-2 c = search needs
 
-array-read-if1-2 : tie.Need-array-read-if1-2 Inv-loop μ-loop
-array-read-if1-2 c = search needs
+array-read-missing-2 : tie.Need-array-read-missing-2 Inv-loop μ-loop
+array-read-missing-2 c = search needs
 
-mul-if1-3 : tie.Need-mul-if1-3 Inv-loop μ-loop
-mul-if1-3 c = search needs
+mul-missing-3 : tie.Need-mul-missing-3 Inv-loop μ-loop
+mul-missing-3 c = search needs
 
-array-read-if1-3 : tie.Need-array-read-if1-3 Inv-loop μ-loop
-array-read-if1-3 c = search needs
+array-read-missing-3 : tie.Need-array-read-missing-3 Inv-loop μ-loop
+array-read-missing-3 c = search needs
 
--- the test of word i, and of the words after it
-turn : (c : tie.In-loop Inv-loop μ-loop)
-    → let s = c .before .before in
+add-words : tie.Need-add-words Inv-loop μ-loop
+add-words c = search needs
+
+-- at the first word with a missing place
+returns-outside : tie.Need-returns Inv-loop μ-loop
+returns-outside c =
+    let s = c .before .before .before in
     let a : List ℕ = s .args .t1 in
     let b : List ℕ = s .args .t2 in
-    let i : ℕ = c .before .loop .word in
-    within a b ≡ eqb (bitOr (getD a i 0) (getD b i 0)) (getD b i 0) && within (drop (i + 1) a) (drop (i + 1) b)
-turn c =
-    let s = c .before .before in
-    sym (c .before .loop .inv .1)
-    ∙ within-turn (s .args .t1) (s .args .t2) (c .before .loop .word) (omega (arith, s .good .0 .1 .0 .1)) (omega (arith, s .good .1 .0 .1 .0 .1))
-
-returns : tie.Need-returns Inv-loop μ-loop
-returns c =
-    let s = c .before .before .before in
-    let x : ℕ = getD (s .args .t1) (c .before .before .loop .word) 0 in
-    let y : ℕ = getD (s .args .t2) (c .before .before .loop .word) 0 in
-    let lacks : bitOr x y ≡ y → ⊥ = c .if1 .taken in
-    sym (turn (c .before) ∙ rw (ne-eqb (bitOr x y) y lacks))
+    let w : ℕ = c .before .before .loop .word in
+    let missing : misses a b w ≡ true = misses-word a b w ∙ ap not (ne-eqb _ _ (c .if1 .taken)) in
+    let end = ends-at a b w (omega (arith, s .good .0 .1 .0 .1)) missing (c .before .before .loop .inv .1) in
+    (sym (end .0), add-one w ∙ sym (end .1))
 
 add-word : tie.Need-add-word Inv-loop μ-loop
 add-word c = search needs
@@ -70,16 +65,20 @@ loop-less c = search needs
 loop-again : tie.Need-loop-again Inv-loop μ-loop
 loop-again c =
     let s = c .before .before .before in
-    let x : ℕ = getD (s .args .t1) (c .before .before .loop .word) 0 in
-    let y : ℕ = getD (s .args .t2) (c .before .before .loop .word) 0 in
-    let held : bitOr x y ≡ y = c .if1 .left in
-    (omega arith, sym (turn (c .before) ∙ rw (eq-eqb (bitOr x y) y held)))
+    let a : List ℕ = s .args .t1 in
+    let b : List ℕ = s .args .t2 in
+    let w : ℕ = c .before .before .loop .word in
+    (omega arith, none-next (misses a b) w (c .before .before .loop .inv .1) (misses-word a b w ∙ ap not (eq-eqb _ _ (c .if1 .left))))
 
-returns-2 : tie.Need-returns-2 Inv-loop μ-loop
-returns-2 c =
+-- past the last word
+returns-inside : tie.Need-returns-2 Inv-loop μ-loop
+returns-inside c =
     let s = c .before .before in
-    let i : ℕ = c .before .loop .word in
-    sym (within-end (s .args .t1) (drop i (s .args .t2)) i (omega (arith, s .good .0 .1 .0 .1))) ∙ c .before .loop .inv .1
+    let a : List ℕ = s .args .t1 in
+    let b : List ℕ = s .args .t2 in
+    let eight : length a ≡ 8 = s .good .0 .1 .0 .1 in
+    let end = ends-past a b (λ k h. c .before .loop .inv .1 k (omega arith)) in
+    (sym (end .0), sym (end .1 ∙ eight))
 
 pub within-spec : {M : Type 1} → statement M
 within-spec =
@@ -88,14 +87,15 @@ within-spec =
     Inv-loop
     μ-loop
     loop-holds
-    mul-if1
-    array-read-if1
-    mul-if1-2
-    array-read-if1-2
-    mul-if1-3
-    array-read-if1-3
-    returns
+    mul-missing
+    array-read-missing
+    mul-missing-2
+    array-read-missing-2
+    mul-missing-3
+    array-read-missing-3
+    add-words
+    returns-outside
     add-word
     loop-less
     loop-again
-    returns-2)
+    returns-inside)

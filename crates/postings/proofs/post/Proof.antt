@@ -47,8 +47,8 @@ allowed c = right-test (c .before) ∙ not-false _ (c .if2 .left)
 abbrev back : tie.After-within → tie.Else2
 back c = c .before .before .before
 
-label-test : (c : tie.After-within) → let s = start (back c .before .before .before .before .before) in within (s .args .ctx .now) (row-at (s .args .sets .now) (label-row + place s)) ≡ c .within .result
-label-test c = rw (← place-is (back c .before .before .before)) (sym (c .within .ensures))
+label-test : (c : tie.After-within) → let s = start (back c .before .before .before .before .before) in within (s .args .ctx .now) (row-at (s .args .sets .now) (label-row + place s)) ≡ c .within .result .inside
+label-test c = rw (← place-is (back c .before .before .before)) (sym (c .within .ensures .0))
 
 -- ---- the needs
 
@@ -122,7 +122,7 @@ stop-outside-requires c κs = search needs
 
 returns-3 : tie.Need-returns-3
 returns-3 c own e =
-    let tested = c .before .before .before .before .before .before in
+    let tested = c .before .before .before .before .before .before .before in
     let may = back tested in
     let s = start (may .before .before .before .before .before) in
     stops-26 (s .args .n) (s .args .ctx .now) (s .args .user) (s .args .table) _ _ _ _ _ (keyed (may .before .before .before .before)) (s .pre .1) (allowed may)
@@ -139,12 +139,12 @@ returns-4 : tie.Need-returns-4
 unfolding under
 returns-4 c own e =
     let passed = c .before .before .before .before .before in
-    let may = back (passed .before) in
+    let may = back (passed .before .before) in
     let placed = may .before .before .before in
     let s = start (placed .before .before) in
     let stored = c .store-cell .ensures in
     posts (s .args .n) (s .args .ctx .now) (s .args .user) (s .args .table) _ _ _ _ _ (keyed (placed .before)) (s .pre .1) (allowed may)
-    (label-test (passed .before) ∙ not-false _ (passed .if3 .left)) (place-is placed) (placed .place-of .ensures .1)
+    (label-test (passed .before .before) ∙ not-false _ (passed .if3 .left)) (place-is placed) (placed .place-of .ensures .1)
     (rw (← place-is placed, ← e) (rw (toZ-ofZ (record { sfits = c .before .store-cell-arg3 .given })) at (stored .0))) (stored .1 .0) (stored .1 .1) (stored .1 .2)
 
 pub post-spec : {M : Type 1} → statement M
