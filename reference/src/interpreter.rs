@@ -205,7 +205,8 @@ impl<'a> Interpreter<'a> {
         in_32_bits(exact, left.label.union(&right.label), number)
     }
 
-    /// Count, sum, smallest or largest over a region of a table.
+    /// Count, sum, smallest or largest over a region of a table. The last two
+    /// stop the run where no cell of it is present.
     fn query(&mut self, number: u16, node: &Node, scope: &Scope) -> Result<Labelled, Stop> {
         let owner_first = self.evaluate(node.a, scope)?;
         let owner_last = self.evaluate(node.b, scope)?;
@@ -215,7 +216,7 @@ impl<'a> Interpreter<'a> {
         label.add(&owner_last.label);
         label.add(&line_first.label);
         label.add(&line_last.label);
-        let mut result = None;
+        let mut gathered = None;
         for owner in clip(owner_first.value, owner_last.value) {
             for line in clip(line_first.value, line_last.value) {
                 let place = place(node.p, owner, line);
@@ -223,11 +224,14 @@ impl<'a> Interpreter<'a> {
                 label.add(&self.cell_label(place));
                 if self.is_present(place) {
                     let amount = i64::from(self.memory.amounts[place]);
-                    result = Some(gather(node.kind, result, amount));
+                    gathered = Some(gather(node.kind, gathered, amount));
                 }
             }
         }
-        in_32_bits(result.unwrap_or(0), label, number)
+        match answer(node.kind, gathered) {
+            Some(exact) => in_32_bits(exact, label, number),
+            None => Err(Stop::without_flow(31, number)),
+        }
     }
 
     fn execute(&mut self, number: u16, context: &Places, scope: &mut Scope) -> Result<(), Stop> {
@@ -557,7 +561,16 @@ fn clip(first: i32, last: i32) -> impl Iterator<Item = u8> {
     (0..8).filter(move |&key| (first..=last).contains(&i32::from(key)))
 }
 
-/// One more present cell's amount taken into a query's result.
+/// What a query answers with what it has gathered, which is nothing where no
+/// cell is present. Nothing has a count and a sum, but no smallest or largest.
+fn answer(query: u8, gathered: Option<i64>) -> Option<i64> {
+    match query {
+        kind::SMALLEST | kind::LARGEST => gathered,
+        _ => Some(gathered.unwrap_or(0)),
+    }
+}
+
+/// One more present cell's amount taken into what a query has gathered.
 fn gather(query: u8, so_far: Option<i64>, amount: i64) -> i64 {
     match (query, so_far) {
         (kind::COUNT, _) => so_far.unwrap_or(0) + 1,

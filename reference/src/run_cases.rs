@@ -10,6 +10,7 @@ mod full_traces;
 mod labels;
 mod lent;
 mod limits;
+mod nothing;
 mod office;
 mod outcome;
 mod rights;
@@ -108,6 +109,7 @@ pub fn all() -> Vec<Case> {
         deep::cases(),
         explanations::cases(),
         taken_back::cases(),
+        nothing::cases(),
     ]
     .concat();
     for (number, case) in cases.iter_mut().enumerate() {

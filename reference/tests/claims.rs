@@ -28,6 +28,11 @@ const PAIRS_STOPPED_FOR_LABELS: usize = 50_000;
 /// 200,000 in all four too.
 const PAIRS_THAT_TOOK_BACK: usize = 50_000;
 
+/// Pairs for each test function of which at least one asks for the smallest or
+/// largest of nothing: 200,000 in all four again. Of one in five only one does.
+const PAIRS_OF_NOTHING: usize = 50_000;
+const PAIRS_OF_NOTHING_ONCE: usize = 10_000;
+
 /// Tries every seed; then tells how many failed, and the first of them whole.
 fn try_seeds(seeds: Range<u64>, mut check: impl FnMut(u64) -> Result<(), String>) {
     let mut failures = 0;
@@ -64,11 +69,15 @@ fn demand_3(part: u64) {
         assert!(pairs.stopped_with_trace > count / 12);
         assert!(pairs.diverged > count / 70);
         let (tried, for_labels) = (pairs.tried, pairs.stopped_for_labels);
-        let taken_back = pairs.taken_back;
+        let (taken_back, of_nothing) = (pairs.taken_back, pairs.of_nothing);
+        let once = pairs.of_nothing_once;
         println!("{tried} pairs, of which {for_labels} stopped for labels");
         println!("{taken_back} of them took a posting back");
+        println!("{of_nothing} asked for the smallest or largest of nothing, {once} in one book");
         assert!(for_labels >= PAIRS_STOPPED_FOR_LABELS);
         assert!(taken_back >= PAIRS_THAT_TOOK_BACK);
+        assert!(of_nothing >= PAIRS_OF_NOTHING);
+        assert!(once >= PAIRS_OF_NOTHING_ONCE);
     });
 }
 
@@ -160,7 +169,7 @@ fn postings_are_taken_back_whole() {
 #[test]
 fn explaining_is_running() {
     on_deep_stack(|| {
-        let mut numbers = [0; 31];
+        let mut numbers = [0; 32];
         try_seeds(0..20_000, |seed| {
             let mut random = Random::new(seed);
             let mut lent = Lent::new();
@@ -180,16 +189,18 @@ fn explaining_is_running() {
                 false => Err(format!("{explained:?}")),
             }
         });
-        for number in (0..=10).chain(21..=30) {
+        for number in (0..=10).chain(21..=31) {
             let count = numbers[number];
             assert!(count >= 20, "answer {number} came {count} times");
         }
     });
 }
 
-/// A book's file and budget, and memory that is lent to it.
+/// A book's file and budget, and memory that is lent to it, now and then with
+/// little trace.
 fn ample(random: &mut Random, lent: &mut Lent) -> (Vec<u8>, u32) {
-    lent.soil(random, 500);
+    let trace = random.pick(&[500, 500, 500, 20]);
+    lent.soil(random, trace);
     (generate::often_failing(random).encode(), 2_500)
 }
 

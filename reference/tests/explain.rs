@@ -345,6 +345,12 @@ fn other_stops_name_none() {
         b.assign(0, sum)
     });
     assert_eq!(reason(&too_large), (22, None, 0));
+    let of_nothing = stopped(0, |b| {
+        let zero = b.constant(0);
+        let smallest = b.query(kind::SMALLEST, 0, [zero; 4]);
+        b.assign(0, smallest)
+    });
+    assert_eq!(reason(&of_nothing), (31, None, 0));
     let no_key = stopped(0, |b| put(b, 1, 8, 0));
     assert_eq!(reason(&no_key), (23, None, 0));
     let no_right = stopped(1, |b| clear(b, 1, 0, 0));
@@ -373,6 +379,38 @@ fn a_full_trace_names_none() {
         let book = program(b, &[last]);
         assert_eq!(reason_with(&book, 100, 7), (30, None, 0));
         assert_eq!(reason_with(&book, 100, 8), (0, None, 0));
+    }
+}
+
+/// In each place the smallest or largest of nothing would be used against a label
+/// too: by an out, a put and a branch. It stops before that.
+#[test]
+fn nothing_names_none() {
+    let uses: [fn(&mut Builder, u16) -> u16; 3] = [
+        |b, value| b.out(1, value),
+        |b, value| {
+            let line = b.constant(0);
+            b.put(1, value, line, line)
+        },
+        |b, value| {
+            let assign = b.assign(0, value);
+            inside(b, value, assign)
+        },
+    ];
+    for (extreme, number) in [(kind::SMALLEST, 31), (kind::LARGEST, 31), (kind::SUM, 0)] {
+        for (at, make) in uses.into_iter().enumerate() {
+            let mut b = eight_tables();
+            let zero = b.constant(0);
+            let value = b.query(extreme, 3, [zero; 4]);
+            let command = make(&mut b, value);
+            let book = program(b, &[command]);
+            if number == 0 {
+                let stop = [27, 26, 25][at];
+                assert_eq!(reason(&book), (stop, Some([3, 0, 0]), 1));
+            } else {
+                assert_eq!(reason(&book), (31, None, 0));
+            }
+        }
     }
 }
 

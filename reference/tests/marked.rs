@@ -123,6 +123,28 @@ fn first_3_last_2_sums_nothing() {
     assert_trace(&memory, &[1, 1, 0, 0, 0, 0, 0, 0]);
 }
 
+/// The same range has no smallest and no largest: the query is node 4, and all
+/// but the trace record is paid as for the sum.
+#[test]
+fn first_3_last_2_has_no_smallest_or_largest() {
+    for query in [kind::SMALLEST, kind::LARGEST] {
+        let mut b = Builder::new();
+        b.cell(0, 2, 0, 20);
+        b.cell(0, 3, 0, 30);
+        let [zero, two, three, seven] = [0, 2, 3, 7].map(|k| b.constant(k));
+        let nothing = b.query(query, 0, [three, two, zero, seven]);
+        let root = b.out(1, nothing);
+        b.program(0, root);
+        let (answer, memory) = run_with(&b.book, BUDGET, 4_096);
+        assert_eq!(answer, ended(31, 4, 9, 0));
+        assert_eq!(memory.amounts[16], 20);
+        assert_eq!(memory.amounts[24], 30);
+        assert_eq!(memory.presence, [0x0101_0000, 0, 0, 0, 0, 0, 0, 0]);
+        assert_eq!(memory.labels, starting_labels());
+        assert_trace(&memory, &[]);
+    }
+}
+
 /// W's cells, regions and rights; node 6 is: if the sum of owner 2 is nonzero,
 /// variable 0 becomes 2.
 fn branch_on_owner_2() -> Builder {

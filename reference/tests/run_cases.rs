@@ -3,6 +3,8 @@
 
 #[path = "common/commands.rs"]
 mod commands;
+#[path = "run_cases/nothing.rs"]
+mod nothing;
 #[path = "run_cases/reasons.rs"]
 mod reasons;
 #[path = "run_cases/taken_back.rs"]
@@ -10,6 +12,7 @@ mod taken_back;
 #[path = "common/w.rs"]
 mod w;
 
+use nothing::Nothing;
 use reasons::Reasons;
 use reference::book::{kind, Book, Refusal};
 use reference::run::{on_deep_stack, Answer};
@@ -84,8 +87,8 @@ fn cases_are_the_same_at_every_call() {
 #[test]
 fn cases_are_many_and_small() {
     let cases = all();
-    assert!(cases.len() >= 7_500, "{} cases", cases.len());
-    assert!(stream(&cases).len() <= 4_000_000);
+    assert!(cases.len() >= 8_400, "{} cases", cases.len());
+    assert!(stream(&cases).len() <= 4_200_000);
     for Case { file, lent, .. } in cases {
         assert!(file.len() <= 60_016);
         assert!(lent.amounts <= 520 && lent.presence <= 16);
@@ -117,6 +120,7 @@ struct Met {
     cost: u32,
     reasons: Reasons,
     taken_back: TakenBack,
+    nothing: Nothing,
 }
 
 impl Met {
@@ -124,6 +128,7 @@ impl Met {
         let outcome = Outcome::of(case);
         self.reasons.count(case, &outcome);
         self.taken_back.count(case);
+        self.nothing.count(case, &outcome);
         match outcome.answer {
             Answer::Refused(Refusal { number, index }) => {
                 *self.answers.entry(number).or_default() += 1;
@@ -185,6 +190,7 @@ fn the_cases_meet_enough() {
     demand_lengths(&met);
     met.reasons.demand();
     met.taken_back.demand();
+    met.nothing.demand();
 }
 
 fn demand_answers(met: &Met) {
@@ -192,7 +198,7 @@ fn demand_answers(met: &Met) {
     for number in 1..=10 {
         assert!(met.answers[&number] >= 20, "{number}: {met:?}");
     }
-    for number in 21..=30 {
+    for number in 21..=31 {
         assert!(met.answers[&number] >= 60, "{number}: {met:?}");
         assert!(met.places[&number].len() >= 10, "{number}: {met:?}");
     }
@@ -214,12 +220,13 @@ fn stopping(number: u32) -> Vec<u8> {
         25 => vec![kind::ASSIGN, kind::RAISE],
         27 => vec![kind::OUT],
         28 | 29 => vec![kind::GRANT, kind::REVOKE],
+        31 => vec![kind::SMALLEST, kind::LARGEST],
         _ => vec![kind::OUT, kind::GRANT, kind::REVOKE],
     }
 }
 
 fn demand_stops(met: &Met) {
-    for number in 21..=30 {
+    for number in 21..=31 {
         for kind in 1..=26 {
             let stops = met.stops.get(&(number, kind));
             let enough = match stopping(number).contains(&kind) {

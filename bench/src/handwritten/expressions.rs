@@ -75,13 +75,13 @@ impl Machine<'_> {
             self.eval(frame, node.d, label)?,
         ];
         let Some(cells) = Area::between(owners, lines) else {
-            return Ok(0);
+            return of_nothing(node);
         };
         let table = usize::from(node.p) % 8;
         label.join_area(part(self.cells.labels, table), &cells);
         let present = self.cells.presence[table] & cells.bits();
         if present == 0 {
-            return Ok(0);
+            return of_nothing(node);
         }
         let amounts = part(self.cells.amounts, table);
         match node.kind {
@@ -91,6 +91,15 @@ impl Machine<'_> {
             LARGEST => Ok(present_amounts(amounts, present).fold(i32::MIN, i32::max)),
             _ => unreachable!("the reader accepts no other kind of expression"),
         }
+    }
+}
+
+/// A query where no cell is present: 0 for a count or a sum, and a stop for a
+/// smallest or a largest, as there is none.
+fn of_nothing(node: &Node) -> Result<i32, Stop> {
+    match node.kind {
+        COUNT | SUM => Ok(0),
+        _ => Err(node.stop(31)),
     }
 }
 

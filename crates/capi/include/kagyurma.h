@@ -18,7 +18,7 @@
 extern "C" {
 #endif
 
-/* How a run ended. number: 0 if it finished, 1 to 10 if the call was refused, 21 to 30 if the run stopped. at: the index of the
+/* How a run ended. number: 0 if it finished, 1 to 10 if the call was refused, 21 to 31 if the run stopped. at: the index of the
  * first bad record (0 for refusals 1 to 4), or the node of the stop. cost: what the run spent. bytes: how many bytes of the
  * trace it wrote. Cost and bytes are 0 if the call was refused. */
 struct kagyurma_ran {

@@ -16,7 +16,9 @@ use Rattle.book.specs.Refusals.{node-at, no-program, is-zero}
 use Rattle.monitor.specs.Labelled.{Label, Lab, lift2}
 use Rattle.monitor.specs.Run.{Cell, Rights, State, Rec, Halt, Out, done, stop, M, after, next, _>>=_, ret, look, each, when, Test, guard, need, pay, set-var, set-cell, tell, restore, own, with-vars, taken-back, undoing}
 use Rattle.monitor.specs.Syntax.{Exp, const, var, add, minus, equal, less, query, Cmd, skip, assign, seq, branch, while, put, clear, out, grant, revoke, raise, exp-of, cmd-of}
-use Rattle.monitor.specs.Rules.{Key, ranged, expr, Mode, Env, choose, posting, trigger-run, fire, write-cell, command, eval, exec, program, run}
+use Rattle.monitor.specs.Rules.{Key, ranged, found, expr, Mode, Env, choose, posting, trigger-run, fire, write-cell, command, eval, exec, program, run}
+use Rattle.monitor.specs.declared.Amount.{Amount}
+use Rattle.monitor.specs.declared.Amount.the-variants.{Exact, Nothing}
 use Rattle.capi.proofs.Fields.{Fields, Named}
 
 -- a run from a state whose trace has room for this many records
@@ -149,6 +151,11 @@ keeps-ranged : (i : ℕ) (x : Lab ℤ) → i < 1024 → Keeps (ranged i x)
 unfolding ranged
 keeps-ranged i x l = keeps-bind (keeps-need _ 22 i l) λ _. keeps-ret x
 
+keeps-found : (i : ℕ) (label : Label) (x : Amount) → i < 1024 → Keeps (found i label x)
+unfolding found
+keeps-found i label (Exact z) l = keeps-ranged i _ l
+keeps-found i label Nothing l = λ s. stands l
+
 module _ (ev : ℕ → M (Lab ℤ)) (k : (a : ℕ) → a < 1024 → Keeps (ev a)) where
   keeps-two : (i a c : ℕ) (f : ℤ → ℤ → ℤ) → i < 1024 → a < 1024 → c < 1024 → Keeps (ev a >>= λ x. ev c >>= λ y. ranged i (lift2 f x y))
   keeps-two i a c f l m n = keeps-bind (k a m) λ x. keeps-bind (k c n) λ y. keeps-ranged i (lift2 f x y) l
@@ -162,7 +169,7 @@ module _ (ev : ℕ → M (Lab ℤ)) (k : (a : ℕ) → a < 1024 → Keeps (ev a)
   keeps-expr i l (low-equal m n) = keeps-two i _ _ _ l m n
   keeps-expr i l (low-less m n) = keeps-two i _ _ _ l m n
   keeps-expr i l (low-query m n o p) =
-      keeps-bind (k _ m) λ _. keeps-bind (k _ n) λ _. keeps-bind (k _ o) λ _. keeps-bind (k _ p) λ _. keeps-bind (keeps-look _) λ _. keeps-ranged i _ l
+      keeps-bind (k _ m) λ _. keeps-bind (k _ n) λ _. keeps-bind (k _ o) λ _. keeps-bind (k _ p) λ _. keeps-bind (keeps-look _) λ _. keeps-found i _ _ l
 
 -- ---- commands
 

@@ -4,17 +4,19 @@ use mathlib.Core.List.{List}
 use mathlib.Core.Bool.{Bool, true, false, _&&_, cond}
 use Prim.Native.Nat.{ℕ, zero, suc, _+_, _*_}
 use lib.Dec.{eqb}
-use lib.IntN.{ℤ}
+use lib.IntN.{ℤ, pos}
 use borrow.Author.Tests.{eqb-true}
 use Rattle.places.specs.Sets.{union, difference, Within}
 use Rattle.places.proofs.Sets.{within-trans, within-union-right, union-least, difference-within}
 use Rattle.book.specs.Records.{Book}
 use Rattle.book.specs.Refusals.{is-zero}
 use Rattle.book.specs.Start.{public-set}
-use Rattle.monitor.specs.Labelled.{Label, bottom, Lab, lift2, under}
+use Rattle.monitor.specs.Labelled.{Label, bottom, Lab, lift, lift2, under}
 use Rattle.monitor.specs.Run.{Cell, held, Rights, State, changed, M, _>>=_, _>>_, ret, update}
 use Rattle.monitor.specs.Syntax.{Exp, const, var, add, minus, less, query, Cmd, skip, assign, seq, branch, while, put, clear, out, grant, revoke, raise}
-use Rattle.monitor.specs.Rules.{Key, key, from-to, Box, box-of, in-box, gather, seen, aggregate, ranged, expr, monitored, Env, within-label, choose, posting, trigger-vars, region-places, granted, revoked, trigger-run, fire, write-cell, command, eval, exec, program, run}
+use Rattle.monitor.specs.Rules.{Key, key, from-to, Box, box-of, in-box, gather, seen, aggregate, ranged, found, expr, monitored, Env, within-label, choose, posting, trigger-vars, region-places, granted, revoked, trigger-run, fire, write-cell, command, eval, exec, program, run}
+use Rattle.monitor.specs.declared.Amount.{Amount}
+use Rattle.monitor.specs.declared.Amount.the-variants.{Exact, Nothing}
 use Rattle.claims.specs.TwoBooks.{Group}
 use Rattle.claims.proofs.Views.{seen-of, gift}
 use Rattle.claims.proofs.Low.{View, Hidden, hidden-left, hidden-right, Same, equal, same-inside, same-lift, same-lift2, same-via, same-under, same-raised, same-update, Safe, Alike}
@@ -29,6 +31,26 @@ still-ranged i x = still-bind (still-need _ 22 i) λ _ _. still-ret tt
 pair-ranged : {v : View} (i : ℕ) {x y : Lab ℤ} → Same (v .R) x y → Pair v (Same (v .R)) (ranged i x) (ranged i y)
 unfolding ranged
 pair-ranged i h = pair-bind (pair-need _ _ 22 i) λ _ _ _. pair-ret h
+
+still-found : {v : View} (i : ℕ) (l : Label) (x : Amount) → Still v Any (found i l x)
+unfolding found seen-of
+still-found i l (Exact z) = still-ranged i _
+still-found i l Nothing = λ s r. stops refl
+
+-- amounts that the group cannot tell apart; where one of two that are hidden is none, that run stops and shows nothing more
+pair-found : {v : View} (i : ℕ) (x y : Lab Amount) → Same (v .R) x y → Pair v (Same (v .R)) (found i (x .lab) (x .val)) (found i (y .lab) (y .val))
+unfolding found seen-of lift
+pair-found {v} i x y h = go (x .val) (y .val) (same-lift amount h)
+  where
+    amount : Amount → ℤ
+    amount (Exact z) = z
+    amount Nothing = pos 0
+
+    go : (a b : Amount) → Same (v .R) (record { val = amount a; lab = x .lab }) (record { val = amount b; lab = y .lab })
+        → Pair v (Same (v .R)) (found i (x .lab) a) (found i (y .lab) b)
+    go (Exact z) (Exact w) h = pair-ranged i h
+    go Nothing b h = λ s t r. first-stops (begun-nil _ refl)
+    go (Exact z) Nothing h = λ s t r. second-stops (begun-nil _ refl)
 
 same-picked : {R : Label} (x : Bool) (f : List Cell → Cell → List Cell) {rest rest' : Lab (List Cell)} {c c' : Lab Cell}
     → Same R rest rest' → Same R c c'
@@ -70,7 +92,7 @@ module _ {v : View} (ev : ℕ → M (Lab ℤ)) (k : (a : ℕ) → Still v Any (e
   still-expr i (less a c) = still-two i a c _
   still-expr i (query kind p a c d e) =
       still-bind (k a) λ _ _. still-bind (k c) λ _ _. still-bind (k d) λ _ _. still-bind (k e) λ _ _.
-      still-bind {P = Any} (still-look _ (λ s r. tt)) λ _ _. still-ranged i _
+      still-bind {P = Any} (still-look _ (λ s r. tt)) λ _ _. still-found i _ _
 
 module _ {v : View} (ev ev' : ℕ → M (Lab ℤ)) (k : (a : ℕ) → Pair v (Same (v .R)) (ev a) (ev' a)) where
   pair-two : (i a c : ℕ) (f : ℤ → ℤ → ℤ)
@@ -78,7 +100,7 @@ module _ {v : View} (ev ev' : ℕ → M (Lab ℤ)) (k : (a : ℕ) → Pair v (Sa
   pair-two i a c f = pair-bind (k a) λ _ _ x. pair-bind (k c) λ _ _ y. pair-ranged i (same-lift2 f x y)
 
   pair-expr : (i : ℕ) (x : Exp) → Pair v (Same (v .R)) (expr ev i x) (expr ev' i x)
-  unfolding expr
+  unfolding expr lift
   pair-expr i (const z) = pair-ret (equal refl)
   pair-expr i (var p) = pair-look _ _ (λ s t r. r .vars p)
   pair-expr i (add a c) = pair-two i a c _
@@ -87,7 +109,7 @@ module _ {v : View} (ev ev' : ℕ → M (Lab ℤ)) (k : (a : ℕ) → Pair v (Sa
   pair-expr i (less a c) = pair-two i a c _
   pair-expr i (query kind p a c d e) =
       pair-bind (k a) λ _ _ w. pair-bind (k c) λ _ _ x. pair-bind (k d) λ _ _ y. pair-bind (k e) λ _ _ z.
-      pair-bind (pair-look _ _ (λ s t r. same-seen p (same-box w x y z) r)) λ _ _ q. pair-ranged i (same-lift (aggregate kind) q)
+      pair-bind (pair-look _ _ (λ s t r. same-seen p (same-box w x y z) r)) λ _ _ q. pair-found i _ _ (same-lift (aggregate kind) q)
 
 still-eval : {v : View} (b : Book) (fuel i : ℕ) → Still v Any (eval b fuel i)
 unfolding eval seen-of

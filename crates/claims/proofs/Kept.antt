@@ -3,13 +3,15 @@ use mathlib.Core.Path.{_≡_, refl}
 use mathlib.Core.List.{List, [], _∷_}
 use mathlib.Core.Bool.{Bool, true, false, _&&_}
 use Prim.Native.Nat.{ℕ}
-use lib.IntN.{ℤ}
+use lib.IntN.{ℤ, pos}
 use Rattle.book.specs.Records.{Book}
 use Rattle.book.specs.Refusals.{is-zero}
 use Rattle.monitor.specs.Labelled.{Label, Lab, lift2}
-use Rattle.monitor.specs.Run.{Cell, State, Rec, M, _>>=_, ret, look, each, when, plainly, inside, guard, need, commit, set-var, set-cell, tell, own, undoing}
+use Rattle.monitor.specs.Run.{Cell, State, Rec, M, next, _>>=_, ret, look, each, when, plainly, inside, guard, need, commit, set-var, set-cell, tell, own, undoing}
 use Rattle.monitor.specs.Syntax.{Exp, const, var, add, minus, equal, less, query, Cmd, skip, assign, seq, branch, while, put, clear, out, grant, revoke, raise}
-use Rattle.monitor.specs.Rules.{Key, ranged, expr, Mode, Env, choose, posting, trigger-run, fire, write-cell, command}
+use Rattle.monitor.specs.Rules.{Key, ranged, found, expr, Mode, Env, choose, posting, trigger-run, fire, write-cell, command}
+use Rattle.monitor.specs.declared.Amount.{Amount}
+use Rattle.monitor.specs.declared.Amount.the-variants.{Exact, Nothing}
 
 -- a relation between runs
 abbrev pub Relation : Type 1
@@ -74,6 +76,12 @@ module _ {mode mode' : Mode} {Rel : Relation} (kept : Kept mode mode' Rel) where
     unfolding ranged
     ranges i x = binds (needs _ 22 i) λ _. returns x
 
+    -- a halt is a test that does not pass
+    finds : (i : ℕ) (l : Label) (x : Amount) → Rel (Lab ℤ) (found i l x) (found i l x)
+    unfolding found need guard next
+    finds i l (Exact z) = ranges i _
+    finds i l Nothing = binds (needs false 31 i) λ _. returns (record { val = pos 0; lab = l })
+
     twos : (i a c : ℕ) (f : ℤ → ℤ → ℤ)
         → Rel (Lab ℤ) (ev a >>= λ x. ev c >>= λ y. ranged i (lift2 f x y)) (ev' a >>= λ x. ev' c >>= λ y. ranged i (lift2 f x y))
     twos i a c f = binds (k a) λ x. binds (k c) λ y. ranges i (lift2 f x y)
@@ -87,7 +95,7 @@ module _ {mode mode' : Mode} {Rel : Relation} (kept : Kept mode mode' Rel) where
     expressions i (equal a c) = twos i a c _
     expressions i (less a c) = twos i a c _
     expressions i (query kind p a c d e) =
-        binds (k a) λ _. binds (k c) λ _. binds (k d) λ _. binds (k e) λ _. binds (looks _) λ _. ranges i _
+        binds (k a) λ _. binds (k c) λ _. binds (k d) λ _. binds (k e) λ _. binds (looks _) λ _. finds i _ _
 
     module _ (b : Book) (rec rec' : Env → ℕ → M (Unit {0})) (h : (e : Env) (i : ℕ) → Rel (Unit {0}) (rec e i) (rec' e i)) where
       writes : (e : Env) (i event p : ℕ) (x : Lab Key) (z : Lab Cell)

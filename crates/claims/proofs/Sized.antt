@@ -24,8 +24,10 @@ use Rattle.book.proofs.Chains.{both}
 use Rattle.monitor.specs.Labelled.{Label, bottom, Lab, lit, lift, lift2, via, under}
 use Rattle.monitor.specs.Run.{Cell, Rights, State, Rec, said, changed, Halt, about-labels, Out, done, stop, M, after, next, _>>=_, ret, look, each, when, Test, plainly, inside, guard, need, commit, update, with-vars, pay, set-var, set-cell, tell, sixteen, restore, own, taken-back, undoing}
 use Rattle.monitor.specs.Syntax.{Exp, const, var, add, minus, equal, less, query, Cmd, skip, assign, seq, branch, while, put, clear, out, grant, revoke, raise, cmd-of}
-use Rattle.monitor.specs.Rules.{Key, key, key-place, in-table, from-to, Box, box-of, in-box, gather, seen, ranged, expr, Mode, Env, within-label, choose, posting, trigger-vars, region-places, trigger-run, fire, write-cell, command, eval, exec, program, run}
+use Rattle.monitor.specs.Rules.{Key, key, key-place, in-table, from-to, Box, box-of, in-box, gather, seen, ranged, found, expr, Mode, Env, within-label, choose, posting, trigger-vars, region-places, trigger-run, fire, write-cell, command, eval, exec, program, run}
 use Rattle.monitor.specs.Call.{script, start-cells, start-state, run-book}
+use Rattle.monitor.specs.declared.Amount.{Amount}
+use Rattle.monitor.specs.declared.Amount.the-variants.{Exact, Nothing}
 use Rattle.claims.specs.Reasons.{Bound, variable, cell, reader, everyone}
 use Rattle.claims.specs.Undone.{standing-run}
 use Rattle.claims.proofs.Views.{records, end}
@@ -337,6 +339,11 @@ module _ (b : Book) (mode : Mode) where
   unfolding ranged
   keeps-ranged i x h = keeps-bind (keeps-need _ 22 i refl) λ _ _. keeps-ret h
 
+  keeps-found : (i : ℕ) (l : Label) (x : Amount) → Small l → Keeps Short (found i l x)
+  unfolding found
+  keeps-found i l (Exact z) h = keeps-ranged i _ h
+  keeps-found i l Nothing h = λ s f. stops none (λ _. plain refl) f
+
   module _ (ev : ℕ → M (Lab ℤ)) (k : (a : ℕ) → Keeps Short (ev a)) where
     keeps-two : (i a c : ℕ) (f : ℤ → ℤ → ℤ) → Keeps Short (ev a >>= λ x. ev c >>= λ y. ranged i (lift2 f x y))
     keeps-two i a c f = keeps-bind (k a) λ x h. keeps-bind (k c) λ y l. keeps-ranged i (lift2 f x y) (short-lift2 f x y h l)
@@ -351,7 +358,7 @@ module _ (b : Book) (mode : Mode) where
     keeps-expr i (less a c) = keeps-two i a c _
     keeps-expr i (query kind p a c d e) =
         keeps-bind (k a) λ w h. keeps-bind (k c) λ x l. keeps-bind (k d) λ y m. keeps-bind (k e) λ z n.
-        keeps-bind (keeps-look _ (λ s f. short-seen p (box-of w x y z) s (short-box w x y z h l m n) f)) λ cells q. keeps-ranged i _ q
+        keeps-bind (keeps-look _ (λ s f. short-seen p (box-of w x y z) s (short-box w x y z h l m n) f)) λ cells q. keeps-found i _ _ q
 
   keeps-eval : (fuel i : ℕ) → Keeps Short (eval b fuel i)
   unfolding eval

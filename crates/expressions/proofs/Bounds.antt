@@ -14,10 +14,10 @@ use Rattle.places.proofs.Sets.{union-assoc}
 use Rattle.book.specs.Records.{NodeRecord}
 use Rattle.book.specs.Kinds.{between}
 use Rattle.book.proofs.Chains.{both}
-use Rattle.monitor.specs.Labelled.{Label, bottom, Lab, lift, lift2, via}
+use Rattle.monitor.specs.Labelled.{Label, bottom, Lab, lift2, via}
 use Rattle.monitor.specs.Run.{Cell, M, next, _>>=_, look}
 use Rattle.monitor.specs.Syntax.{exp-of}
-use Rattle.monitor.specs.Rules.{from-to, box-of, seen, aggregate, ranged, expr, eval}
+use Rattle.monitor.specs.Rules.{from-to, box-of, seen, aggregate, found, expr, eval}
 use Rattle.machine.specs.Script.{script-of}
 use Rattle.machine.specs.Promises.{Gives, Evaluates, Expresses}
 use Rattle.machine.specs.declared.Value.{Value}
@@ -25,12 +25,12 @@ use Rattle.machine.specs.declared.Value.the-variants.{Known, Stopped}
 use Rattle.machine.proofs.Runs.{after-none}
 use Rattle.queries.specs.declared.Found.{Found}
 use Rattle.queries.specs.Found.{box, box-in, found-in}
-use Rattle.expressions.proofs.Steps.{labelled, gives-as, stops-at, goes-on, Held}
+use Rattle.expressions.proofs.Steps.{labelled, gives-as, stops-at, goes-on, Answered}
 use Rattle.expressions.proofs.Parts.{node-in}
 
 -- the rest of a query after its four bounds
 abbrev aggregating : NodeRecord → ℕ → Lab ℤ → Lab ℤ → Lab ℤ → Lab ℤ → M (Lab ℤ)
-aggregating x n t u v w = look (seen (x .p) (box-of t u v w)) >>= λ cells. ranged n (lift (aggregate (x .kind)) cells)
+aggregating x n t u v w = look (seen (x .p) (box-of t u v w)) >>= λ cells. found n (cells .lab) (aggregate (x .kind) (cells .val))
 
 -- the node of a query's bound i
 unfoldable pub bound-of : NodeRecord → ℕ → ℕ
@@ -65,13 +65,13 @@ query-is ev n x e =
     rw (ne-eqb (x .kind) 2 (omega arith), ne-eqb (x .kind) 3 (omega arith), ne-eqb (x .kind) 4 (omega arith), ne-eqb (x .kind) 5 (omega arith), ne-eqb (x .kind) 6 (omega arith), e)
 
 -- the cells in the box, with the labels of the bounds and of all of them
-aggregating-gives : (cells : ℕ → Lab Cell) (vars : ℕ → Lab ℤ) (x : NodeRecord) (n : ℕ) {run : List ℕ} {before after : Label} (t u v w : Lab ℤ) {found : Found}
-    → found ≡ found-in (x .kind) cells (box (t .val) (u .val) (v .val) (w .val)) (x .p)
-    → after ≡ union before (union (union (union (t .lab) (u .lab)) (union (v .lab) (w .lab))) (found .label))
-    → {r : Value} {run' : List ℕ} → Held n (found .value) run r run'
+aggregating-gives : (cells : ℕ → Lab Cell) (vars : ℕ → Lab ℤ) (x : NodeRecord) (n : ℕ) {run : List ℕ} {before after : Label} (t u v w : Lab ℤ) {query : Found}
+    → query ≡ found-in (x .kind) cells (box (t .val) (u .val) (v .val) (w .val)) (x .p)
+    → after ≡ union before (union (union (union (t .lab) (u .lab)) (union (v .lab) (w .lab))) (query .label))
+    → {r : Value} {run' : List ℕ} → Answered n (query .amount) run r run'
     → Gives (λ fuel. aggregating x n t u v w) cells vars run before r run' after
-unfolding next seen via box-of from-to lift lift2 found-in
-aggregating-gives cells vars x n {before = before} {after = after} t u v w {found} e j h =
+unfolding next seen via box-of from-to lift2 found-in
+aggregating-gives cells vars x n {before = before} {after = after} t u v w {query} e j h =
     let g = (rw e at h) .gives cells vars _ before after (rw e at j) in
     record {
       label = g .label;
@@ -139,9 +139,9 @@ module _ (code : List ℕ) (n : ℕ) {cells : ℕ → Lab Cell} {vars : ℕ → 
       }
 
     -- all four, and the cells in their box
-    pub bounding-ends : 4 ≤ i → {found : Found}
-        → found ≡ found-in (node-in code n .kind) cells (box-in bounds) (node-in code n .p)
-        → {r : Value} {run' : List ℕ} → Held n (found .value) run₁ r run' → Gives (Expresses code n) cells vars run before r run' (union after (found .label))
+    pub bounding-ends : 4 ≤ i → {query : Found}
+        → query ≡ found-in (node-in code n .kind) cells (box-in bounds) (node-in code n .p)
+        → {r : Value} {run' : List ℕ} → Answered n (query .amount) run₁ r run' → Gives (Expresses code n) cells vars run before r run' (union after (query .label))
     unfolding bounding joining
     bounding-ends h is w =
         let all : i ≡ 4 = omega (arith, b .within) in

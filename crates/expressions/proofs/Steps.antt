@@ -13,7 +13,9 @@ use Rattle.book.specs.Refusals.{node-at}
 use Rattle.book.proofs.Costs.{cost-positive}
 use Rattle.monitor.specs.Labelled.{Label, bottom, Lab}
 use Rattle.monitor.specs.Run.{Cell, Rights, State, Out, M, next, _>>=_, guard, pay}
-use Rattle.monitor.specs.Rules.{fits-32, ranged, eval}
+use Rattle.monitor.specs.Rules.{fits-32, ranged, found, eval}
+use Rattle.monitor.specs.declared.Amount.{Amount}
+use Rattle.monitor.specs.declared.Amount.the-variants.{Exact, Nothing}
 use Rattle.machine.specs.Script.{script-of}
 use Rattle.machine.specs.Store.{left-of}
 use Rattle.machine.specs.Promises.{Stops, Paid, Short, given, Gives, Evaluates, Expresses}
@@ -86,6 +88,29 @@ stop-held {n} {z} {run} e s = record {
   gives = λ cells vars label before after j. record {
     label = label;
     is = λ fuel h rights room sets. rw (s .number-is, s .node-is, s .left-same) (need-fails _ 22 n _ (standing cells vars rights room run) e);
+    within = omega (arith, s .left-same);
+    used-same = s .used-same;
+    joined = λ q. cc;
+  };
+}
+
+-- ---- 31
+
+-- what a query found gives r, whatever its label
+pub record Answered (n : ℕ) (a : Amount) (run : List ℕ) (r : Value) (run' : List ℕ) : Type 0 where
+  pub gives : (cells : ℕ → Lab Cell) (vars : ℕ → Lab ℤ) (label before after : Label) → after ≡ union before label
+      → Gives (λ fuel. found n label a) cells vars run before r run' after
+
+pub exact-answered : {n : ℕ} {a : Amount} {z : ℤ} {run : List ℕ} {r : Value} {run' : List ℕ} → a ≡ Exact z → Held n z run r run' → Answered n a run r run'
+unfolding found
+exact-answered e h = record { gives = rw e (h .gives) }
+
+pub nothing-answered : {n : ℕ} {a : Amount} {run run' : List ℕ} → a ≡ Nothing → Stops run 31 n run' → Answered n a run Stopped run'
+unfolding found given
+nothing-answered e s = record {
+  gives = λ cells vars label before after j. record {
+    label = label;
+    is = λ fuel h rights room sets. rw (e, s .number-is, s .node-is, s .left-same);
     within = omega (arith, s .left-same);
     used-same = s .used-same;
     joined = λ q. cc;

@@ -4,6 +4,7 @@ use machine::Run;
 use machine::Script;
 use machine::Sets;
 use machine::Value;
+use monitor::Amount;
 ghost use mathlib.Core.Path.{_≡_};
 ghost use mathlib.Core.Bool.{true};
 ghost use Prim.Native.Nat.{ℕ, _<_};
@@ -140,7 +141,7 @@ fn part(
     leaf(code, n, vars, tags, run, label)
 }
 
-// 8 to 11: four bounds, and the cells of a table in their box. The loop calls `part` from one place: from four, it would not be in line.
+// 8 to 11: four bounds, and the cells of a table in their box; 31 where they give no amount. The loop calls `part` from one place: from four, it would not be in line.
 fn query(
     code: &Script,
     n: usize,
@@ -170,7 +171,11 @@ fn query(
     let found = queries::query(code[at], table, &bounds, cells, sets);
     let seen = found.label;
     machine::join(label, seen);
-    let exact = found.value;
+    let amount = found.amount;
+    let Amount::Exact(exact) = amount else {
+        machine::stop(run, 31, n);
+        return Value::Stopped;
+    };
     if !fits(exact) {
         machine::stop(run, 22, n);
         return Value::Stopped;

@@ -66,7 +66,7 @@ given (value.Known z) label run sets s = done [] (record { val = z; lab = label 
 given value.Stopped label run sets s = stop [] (halted run sets) s
 
 -- With any fuel that is at least what is left of the budget, m gives this answer with some label. Rights and room do not bear on it, nor does
--- what stands in the rows of a stop: its stops, 21 and 22, are not about labels. Where the value is known, the lent label became its union
+-- what stands in the rows of a stop: its stops, 21, 22 and 31, are not about labels. Where the value is known, the lent label became its union
 -- with that label; after a stop nobody looks at it, so nothing is said.
 pub record Gives (m : ℕ → M (Lab ℤ)) (cells : ℕ → Lab Cell) (vars : ℕ → Lab ℤ) (run : List ℕ) (before : Label) (r : Value) (run' : List ℕ) (after : Label) : Type 0 where
   pub label : Label

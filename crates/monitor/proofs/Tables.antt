@@ -20,7 +20,7 @@ use Rattle.book.specs.declared.Verdict.the-variants.{Accepted, Refused}
 use Rattle.monitor.specs.Labelled.{Lab, lit, lift, lift2, via, under}
 use Rattle.monitor.specs.Run.{Cell, Out, after, next, each, when, guard, need, update, pay, set-var, set-cell, tell, sixteen, restore, own, taken-back, undoing}
 use Rattle.monitor.specs.Syntax.{exp-of, cmd-of}
-use Rattle.monitor.specs.Rules.{fits-32, equals, less-than, key, from-to, box-of, in-box, gather, seen, amounts-of, count-of, sum-of, best, best-of, aggregate, ranged, expr, within-label, choose, key-place, in-table, posting, trigger-vars, numbers, region-places, granted, revoked, fitting, trigger-run, fire, write-cell, command, eval, exec, program, run}
+use Rattle.monitor.specs.Rules.{fits-32, equals, less-than, key, from-to, box-of, in-box, gather, seen, amounts-of, count-of, sum-of, best, best-of, aggregate, ranged, found, expr, within-label, choose, key-place, in-table, posting, trigger-vars, numbers, region-places, granted, revoked, fitting, trigger-run, fire, write-cell, command, eval, exec, program, run}
 use Rattle.monitor.specs.Call.{Memory, Result, values, record-bytes, trace-bytes, script, rows, start-rights, start-state, run-book, call-verdict, memory-after, result-of, answered, call, cut, trace-records}
 use Rattle.monitor.specs.Samples.{final}
 use Rattle.monitor.specs.Tables.{Shown, Row, lent, shown, called, book-answered, ran, Shows, Leaving, left, Leaves}
@@ -91,7 +91,7 @@ left-same labels z n x =
 -- ---- tables that hold by computation
 
 unfoldable pub called-quick : ℤ → ℕ → Row (List ℕ) → Shown
-unfolding has word-of set-of word-by-word union difference within in-region region-set records section-bytes cells-format regions-format rights-format nodes-format programs-format triggers-format in-order bounds decode cost-of sort-of fields-of and-then refusals.need refusals.marked first blame length-fits mark-fits sections-fit cell-fits rises bad-cell region-fits bad-region right-fits bad-right field-fits node-fits is-command program-fits bad-program forbidden reaches trigger-fits bad-trigger book-verdict verdict extents distance-to-end pairs other-sections trailer-bytes encode tabulate amount-at rights-hold right-set lit lift lift2 via under after next each when guard need update pay set-var set-cell tell sixteen restore own taken-back undoing exp-of cmd-of fits-32 equals less-than key from-to box-of in-box gather seen amounts-of count-of sum-of best best-of aggregate ranged expr within-label is-zero choose key-place in-table posting trigger-vars numbers region-places granted revoked fitting trigger-run fire write-cell command eval exec program run values record-bytes trace-bytes script rows start-rights call-verdict memory-after result-of cut trace-records lent start-cell shown run-from run-quick answered-by called-by
+unfolding has word-of set-of word-by-word union difference within in-region region-set records section-bytes cells-format regions-format rights-format nodes-format programs-format triggers-format in-order bounds decode cost-of sort-of fields-of and-then refusals.need refusals.marked first blame length-fits mark-fits sections-fit cell-fits rises bad-cell region-fits bad-region right-fits bad-right field-fits node-fits is-command program-fits bad-program forbidden reaches trigger-fits bad-trigger book-verdict verdict extents distance-to-end pairs other-sections trailer-bytes encode tabulate amount-at rights-hold right-set lit lift lift2 via under after next each when guard need update pay set-var set-cell tell sixteen restore own taken-back undoing exp-of cmd-of fits-32 equals less-than key from-to box-of in-box gather seen amounts-of count-of sum-of best best-of aggregate ranged found expr within-label is-zero choose key-place in-table posting trigger-vars numbers region-places granted revoked fitting trigger-run fire write-cell command eval exec program run values record-bytes trace-bytes script rows start-rights call-verdict memory-after result-of cut trace-records lent start-cell shown run-from run-quick answered-by called-by
 called-quick = called-by (run-quick true)
 
 unfoldable pub ran-quick : Bool → ℤ → ℕ → Row Book → Shown

@@ -17,9 +17,19 @@ use Rattle.monitor.specs.Marked.{w-with, beyond, branching}
 abbrev pub queries : List NodeRecord
 queries = count 0 1 2 0 3 ∷ out 4 1 ∷ smallest 0 1 2 0 3 ∷ out 6 1 ∷ largest 0 1 2 0 3 ∷ out 8 1 ∷ both 5 7 ∷ both 10 9 ∷ []
 
--- smallest plus largest of owners 2 to 1, to user 1
+-- to user 1, of owners 2 to 1: their smallest, their largest, the sum of both, a sum with that smallest as its first bound, and how many they are
+-- plus their sum
 abbrev pub nothing : List NodeRecord
-nothing = smallest 0 2 1 0 3 ∷ largest 0 2 1 0 3 ∷ plus 4 5 ∷ out 6 1 ∷ []
+nothing =
+    smallest 0 2 1 0 3 ∷ out 4 1 ∷ largest 0 2 1 0 3 ∷ out 6 1 ∷ plus 4 6 ∷ out 8 1 ∷ sum 0 4 1 0 3 ∷ out 10 1
+    ∷ count 0 2 1 0 3 ∷ sum 0 2 1 0 3 ∷ plus 12 13 ∷ out 14 1 ∷ []
+
+-- smallest and largest of lines 1 to 2 of owner 1, which are absent, each to user 1: 4 to 7. In 13 user 0 puts 0 at line 2 before both, clears
+-- it, and then comes the largest again. 16 and 18 tell the smallest of lines 8 to 7, and the largest of owner 8
+abbrev pub sparse : List NodeRecord
+sparse =
+    smallest 0 1 1 1 2 ∷ out 4 1 ∷ largest 0 1 1 1 2 ∷ out 6 1 ∷ put 0 1 2 0 ∷ clear 0 1 2 ∷ both 8 5 ∷ both 10 7 ∷ both 11 9 ∷ both 12 7
+    ∷ constant (pos 8) ∷ smallest 0 1 1 14 3 ∷ out 15 1 ∷ largest 0 14 14 0 3 ∷ out 17 1 ∷ []
 
 -- 0 - 1, whether that is less than 0, and whether 1 equals 2, to user 1
 abbrev pub comparing : List NodeRecord
@@ -136,8 +146,22 @@ examples =
     -- count, smallest and largest: 11, 10, three outs and queries
     run-list (w-with (may-read 1 0 ∷ may-read 1 1 ∷ []) queries (program 0 11 ∷ []))
     (shows 0 0 29 24 (told 2 ∷ told 250 ∷ (1 ∷ 1 ∷ 0 ∷ 0 ∷ 132 ∷ 3 ∷ 0 ∷ 0 ∷ []) ∷ []))
-    -- smallest and largest of nothing are 0: out, sum and two queries
-    ∷ run-list (w-with w-rights nothing (program 0 7 ∷ [])) (shows 0 0 18 8 (told 0 ∷ []))
+    -- smallest and largest of nothing stop on their node: out and query
+    ∷ run-list (w-with w-rights nothing (program 0 5 ∷ [])) (shows 31 4 9 0 [])
+    ∷ run-list (w-with w-rights nothing (program 0 7 ∷ [])) (shows 31 6 9 0 [])
+    -- as a first part, before the second: out, sum and query. And as a bound: out, a query's 4, and the query
+    ∷ run-list (w-with w-rights nothing (program 0 9 ∷ [])) (shows 31 4 10 0 [])
+    ∷ run-list (w-with w-rights nothing (program 0 11 ∷ [])) (shows 31 4 13 0 [])
+    -- count and sum of nothing are 0: out, sum and two queries
+    ∷ run-list (w-with w-rights nothing (program 0 15 ∷ [])) (shows 0 0 18 8 (told 0 ∷ []))
+    -- of absent cells: out and query
+    ∷ run-list (w-with w-rights sparse (program 0 5 ∷ [])) (shows 31 4 9 0 [])
+    ∷ run-list (w-with w-rights sparse (program 0 7 ∷ [])) (shows 31 6 9 0 [])
+    -- of lines 8 to 7, and of owner 8
+    ∷ run-list (w-with w-rights sparse (program 0 16 ∷ [])) (shows 31 15 9 0 [])
+    ∷ run-list (w-with w-rights sparse (program 0 18 ∷ [])) (shows 31 17 9 0 [])
+    -- of one present cell of 0, and no more once it is cleared: 13, 12, 11, 10, put of 4, two outs with queries, clear of 3, and the last out
+    ∷ run-list (w-with (may-read 1 0 ∷ may-write 0 0 ∷ []) sparse (program 0 13 ∷ [])) (shows 31 6 38 16 (told 0 ∷ told 0 ∷ []))
     -- minus one, yes and no: 11, 10, outs with 3, 5 and 3 nodes below
     ∷ run-list (w-with w-rights comparing (program 0 11 ∷ [])) (shows 0 0 16 24 ((1 ∷ 1 ∷ 0 ∷ 0 ∷ 255 ∷ 255 ∷ 255 ∷ 255 ∷ []) ∷ told 1 ∷ told 0 ∷ []))
     -- eight bytes of trace are room for one record, and not readable comes before no room
@@ -238,13 +262,15 @@ unlabelled =
     -- 29 and 26: in a context that is not public, and that the cell's label does not hold
     ∷ run-list (w-with [] in-secret (program 0 7 ∷ [])) (shows 0 0 10 8 (changed 2 1 1 ∷ []))
     ∷ run-list (w-with (may-write 0 0 ∷ []) in-secret (program 0 9 ∷ [])) (shows 0 0 13 0 [])
-    -- 21 to 24, 28 and 30 are tested all the same
+    -- 21 to 24, 28, 30 and 31 are tested all the same
     ∷ record { of = w-with w-rights w-nodes (program 0 8 ∷ []); budget = 18; trace = 4096; shows = shows 21 3 18 8 (told 250 ∷ []) }
     ∷ run-list (w-with w-rights beyond (program 0 6 ∷ [])) (shows 22 5 4 0 [])
     ∷ run-list (w-with w-rights (constant (pos 8) ∷ put 0 4 0 1 ∷ []) (program 0 5 ∷ [])) (shows 23 5 4 0 [])
     ∷ run-list (w-with w-rights (put 0 1 0 1 ∷ []) (program 0 4 ∷ [])) (shows 24 4 4 0 [])
     ∷ run-list (w-with w-rights (grant-read 1 1 ∷ []) (program 1 4 ∷ [])) (shows 28 4 1 0 [])
     ∷ record { of = w-with w-rights w-nodes (program 0 8 ∷ []); budget = 100000; trace = 15; shows = shows 30 7 19 8 (told 250 ∷ []) }
+    ∷ run-list (w-with w-rights nothing (program 0 5 ∷ [])) (shows 31 4 9 0 [])
+    ∷ run-list (w-with w-rights nothing (program 0 7 ∷ [])) (shows 31 6 9 0 [])
     -- triggers run, and each program's variables start at 0
     ∷ run-list (posting [] posted 10 (trigger 0 1 3 6 ∷ [])) (shows 0 0 18 8 (told 2 ∷ []))
     ∷ run-list (w-with w-rights one-each (program 0 4 ∷ program 0 6 ∷ [])) (shows 0 0 4 8 (told 0 ∷ []))
@@ -330,6 +356,8 @@ failures =
     ∷ put-fires (trigger 0 1 0 16 ∷ []) (shows 23 11 17 0 [])
     -- by 24: user 3 may not write table 1
     ∷ put-fires (trigger 0 1 3 6 ∷ []) (shows 24 6 8 0 [])
+    -- by 31: 21 is the smallest of owner 2's line 0, which is absent; 22 puts it at (1,1,0), after 6 has in 23
+    ∷ leaves (run-list (failing (smallest 0 2 2 0 0 ∷ put 1 1 0 21 ∷ both 6 22 ∷ []) (program 0 4 ∷ []) (trigger 0 1 0 23 ∷ [])) (shows 31 21 20 0 [])) untouched
     -- by 21 on the body's root, and on a node below, after (1,1,0) is written
     ∷ leaves (record { of = failing [] (program 0 4 ∷ []) (trigger 0 1 0 6 ∷ []); budget = 4; trace = 4096; shows = shows 21 6 4 0 [] }) untouched
     ∷ leaves (record { of = failing [] (program 0 4 ∷ []) (trigger 0 1 0 12 ∷ []); budget = 10; trace = 4096; shows = shows 21 3 10 0 [] }) untouched

@@ -84,7 +84,7 @@ pub record ExplainClauses : Type 0 where
   pub no-places : Explain.reason (sets 6 7) ≡ record { place = none; count = 0 }
   -- stops 25, 26, 27 and 29 have a reason, whatever the sets of the others
   pub explained-stops : map (λ number. Explain.explanation (stopping number)) (25 ∷ 26 ∷ 27 ∷ 29 ∷ []) ≡ replicate 4 (named 1 2)
-  pub other-stops : map (λ number. Explain.explanation (stopping number)) (21 ∷ 22 ∷ 23 ∷ 24 ∷ 28 ∷ 30 ∷ []) ≡ replicate 6 (record { place = none; count = 0 })
+  pub other-stops : map (λ number. Explain.explanation (stopping number)) (21 ∷ 22 ∷ 23 ∷ 24 ∷ 28 ∷ 30 ∷ 31 ∷ []) ≡ replicate 7 (record { place = none; count = 0 })
   pub finished : Explain.explanation finished-run ≡ record { place = none; count = 0 }
   -- a refused file has none
   pub refused : Explain.explained w-file 100 (lent 512 8 4096 16) (verdicts.Refused 8 3) ≡ record { place = none; count = 0 }

@@ -14,6 +14,7 @@ use Rattle.monitor.specs.Rules
 use Rattle.monitor.specs.Syntax as syntax
 use Rattle.monitor.specs.Samples.{went, halted, ending, final, counts, labelled, eight, key-of, sample-cells, sample, having, small-book, giving, running, here, office}
 use Rattle.monitor.specs.RunClauses.{sets}
+use Rattle.monitor.specs.declared.Amount.the-variants.{Exact, Nothing}
 
 -- ---- values for the clauses
 
@@ -133,15 +134,23 @@ pub record RuleClauses : Type 0 where
   -- table 1 is places 64 to 127; the label of the bounds counts too
   pub seen-last : Rules.seen 1 (labelled last-cell 1) sample ≡ record { val = held (pos 127) ∷ []; lab = eight (1 + 2 ^ 127) }
   pub seen-first : Rules.seen 1 (labelled first-cell 2) sample ≡ record { val = held (pos 64) ∷ []; lab = eight (2 + 2 ^ 64) }
-  -- count, sum, smallest, largest of the present cells, and of none
-  pub aggregates : map (λ kind. Rules.aggregate kind some-cells) (8 ∷ 9 ∷ 10 ∷ 11 ∷ []) ≡ pos 4 ∷ pos 11 ∷ negsuc 4 ∷ pos 9 ∷ []
-  pub of-nothing : map (λ kind. Rules.aggregate kind (absent ∷ [])) (8 ∷ 9 ∷ 10 ∷ 11 ∷ []) ≡ pos 0 ∷ pos 0 ∷ pos 0 ∷ pos 0 ∷ []
+  -- count, sum, smallest, largest of the present cells; of absent cells, and of none at all
+  pub aggregates : map (λ kind. Rules.aggregate kind some-cells) (8 ∷ 9 ∷ 10 ∷ 11 ∷ []) ≡ Exact (pos 4) ∷ Exact (pos 11) ∷ Exact (negsuc 4) ∷ Exact (pos 9) ∷ []
+  pub of-absent : map (λ kind. Rules.aggregate kind (absent ∷ absent ∷ [])) (8 ∷ 9 ∷ 10 ∷ 11 ∷ []) ≡ Exact (pos 0) ∷ Exact (pos 0) ∷ Nothing ∷ Nothing ∷ []
+  pub of-no-cells : map (λ kind. Rules.aggregate kind []) (8 ∷ 9 ∷ 10 ∷ 11 ∷ []) ≡ Exact (pos 0) ∷ Exact (pos 0) ∷ Nothing ∷ Nothing ∷ []
+  -- one present cell is enough: with 0, and with the smallest and the largest amount
+  pub of-zero : map (λ kind. Rules.aggregate kind (absent ∷ held (pos 0) ∷ absent ∷ [])) (8 ∷ 9 ∷ 10 ∷ 11 ∷ []) ≡ Exact (pos 1) ∷ Exact (pos 0) ∷ Exact (pos 0) ∷ Exact (pos 0) ∷ []
+  pub of-lowest : map (λ kind. Rules.aggregate kind (absent ∷ held (negsuc 2147483647) ∷ [])) (10 ∷ 11 ∷ []) ≡ Exact (negsuc 2147483647) ∷ Exact (negsuc 2147483647) ∷ []
+  pub of-highest : map (λ kind. Rules.aggregate kind (held (pos 2147483647) ∷ absent ∷ [])) (10 ∷ 11 ∷ []) ≡ Exact (pos 2147483647) ∷ Exact (pos 2147483647) ∷ []
   -- smallest and largest of amounts on one side of 0
-  pub smallest-above : map (λ kind. Rules.aggregate kind (held (pos 9) ∷ held (pos 3) ∷ [])) (10 ∷ 11 ∷ []) ≡ pos 3 ∷ pos 9 ∷ []
-  pub largest-below : map (λ kind. Rules.aggregate kind (held (negsuc 9) ∷ held (negsuc 3) ∷ [])) (10 ∷ 11 ∷ []) ≡ negsuc 9 ∷ negsuc 3 ∷ []
+  pub smallest-above : map (λ kind. Rules.aggregate kind (held (pos 9) ∷ held (pos 3) ∷ [])) (10 ∷ 11 ∷ []) ≡ Exact (pos 3) ∷ Exact (pos 9) ∷ []
+  pub largest-below : map (λ kind. Rules.aggregate kind (held (negsuc 9) ∷ held (negsuc 3) ∷ [])) (10 ∷ 11 ∷ []) ≡ Exact (negsuc 9) ∷ Exact (negsuc 3) ∷ []
   -- 22
   pub in-range : ending (Rules.ranged 9 (labelled (pos 5) 1) sample) ≡ went [] (labelled (pos 5) 1)
   pub out-of-range : ending (Rules.ranged 9 (labelled (pos 2147483648) 1) sample) ≡ halted [] 22 9 (eight 0) (eight 0)
+  -- what a query found: 22 of an amount, 31 of nothing
+  pub found : map (λ amount. ending (Rules.found 9 (1 ∷ []) amount sample)) (Exact (pos 5) ∷ Exact (pos 2147483648) ∷ Nothing ∷ [])
+      ≡ went [] (labelled (pos 5) 1) ∷ halted [] 22 9 (eight 0) (eight 0) ∷ halted [] 31 9 (eight 0) (eight 0) ∷ []
   -- each expression: its children in order, each in the state that the one before left; its value; its label
   pub constants : ending (Rules.expr giving 9 (syntax.const (negsuc 4)) sample) ≡ went [] (lit (negsuc 4))
   pub variables : ending (Rules.expr giving 9 (syntax.var 3) sample) ≡ went [] (labelled (pos 13) 24)
@@ -157,6 +166,23 @@ pub record RuleClauses : Type 0 where
   pub queries-count : ending (Rules.expr giving 9 (syntax.query 8 1 1 2 3 5) (having 4 0))
       ≡ went (said 1 (pos 4) ∷ said 2 (pos 3) ∷ said 3 (pos 2) ∷ said 5 (pos 1) ∷ [])
       (record { val = pos 6; lab = eight (46 + 2 ^ 75 + 2 ^ 76 + 2 ^ 77 + 2 ^ 83 + 2 ^ 84 + 2 ^ 85) })
+  -- smallest and largest of the same cells
+  pub queries-best : map (λ kind. ending (Rules.expr giving 9 (syntax.query kind 1 1 2 3 5) sample)) (10 ∷ 11 ∷ [])
+      ≡ map (λ z. went (said 1 (pos 100) ∷ said 2 (pos 99) ∷ said 3 (pos 98) ∷ said 5 (pos 97) ∷ [])
+      (record { val = z; lab = eight (46 + 2 ^ 75 + 2 ^ 76 + 2 ^ 77 + 2 ^ 83 + 2 ^ 84 + 2 ^ 85) })) (pos 75 ∷ pos 85 ∷ [])
+  -- 31 for these two, after the four bounds: of owners 2 to 1, of owners from 8 on, and of an absent cell; the cost of the bounds stays
+  pub queries-of-nothing : map (λ kind. ending (Rules.expr giving 9 (syntax.query kind 1 2 1 3 5) sample)) (10 ∷ 11 ∷ [])
+      ≡ replicate 2 (halted (said 2 (pos 100) ∷ said 1 (pos 99) ∷ said 3 (pos 98) ∷ said 5 (pos 97) ∷ []) 31 9 (eight 0) (eight 0))
+  pub queries-outside : map (λ kind. ending (Rules.expr giving 9 (syntax.query kind 1 8 9 3 5) sample)) (10 ∷ 11 ∷ [])
+      ≡ replicate 2 (halted (said 8 (pos 100) ∷ said 9 (pos 99) ∷ said 3 (pos 98) ∷ said 5 (pos 97) ∷ []) 31 9 (eight 0) (eight 0))
+  pub queries-of-absent : map (λ kind. ending (Rules.expr giving 9 (syntax.query kind 0 0 0 6 6) sample)) (10 ∷ 11 ∷ [])
+      ≡ replicate 2 (halted (said 0 (pos 100) ∷ said 0 (pos 99) ∷ said 6 (pos 98) ∷ said 6 (pos 97) ∷ []) 31 9 (eight 0) (eight 0))
+  pub queries-of-nothing-left : map (λ kind. counts (final (Rules.expr giving 9 (syntax.query kind 1 2 1 3 5) sample))) (10 ∷ 11 ∷ []) ≡ replicate 2 (96 ∷ 5 ∷ [])
+  -- count and sum are 0 there, with the labels of the bounds, and of the absent cell
+  pub queries-none : map (λ kind. ending (Rules.expr giving 9 (syntax.query kind 1 2 1 3 5) sample)) (8 ∷ 9 ∷ [])
+      ≡ replicate 2 (went (said 2 (pos 100) ∷ said 1 (pos 99) ∷ said 3 (pos 98) ∷ said 5 (pos 97) ∷ []) (record { val = pos 0; lab = eight 46 }))
+  pub queries-none-present : map (λ kind. ending (Rules.expr giving 9 (syntax.query kind 0 0 0 6 6) sample)) (8 ∷ 9 ∷ [])
+      ≡ replicate 2 (went (said 0 (pos 100) ∷ said 0 (pos 99) ∷ said 6 (pos 98) ∷ said 6 (pos 97) ∷ []) (record { val = pos 0; lab = eight 65 }))
   -- 22 for each: 2147483647 + 1, -2147483648 - 1, and a sum of six cells
   pub sums-in-range : ending (Rules.expr (largest-or-one (pos 2147483647)) 9 (syntax.add 5 3) sample) ≡ halted [] 22 9 (eight 0) (eight 0)
   pub differences-in-range : ending (Rules.expr (largest-or-one (negsuc 2147483647)) 9 (syntax.minus 5 3) sample) ≡ halted [] 22 9 (eight 0) (eight 0)

@@ -16,8 +16,10 @@ use Rattle.book.specs.Kinds.{cost-of}
 use Rattle.book.specs.Refusals.{no-region, no-trigger, node-at, is-zero}
 use Rattle.book.specs.Start.{public-set}
 use Rattle.monitor.specs.Labelled.{Label, bottom, Lab, lit, lift, lift2, via, under}
-use Rattle.monitor.specs.Run.{Cell, held, absent, Rights, State, said, changed, M, stop, no-sets, _>>=_, _>>_, ret, look, each, when, plainly, inside, need, update, pay, set-var, set-cell, tell, sixteen, own, undoing}
+use Rattle.monitor.specs.Run.{Cell, held, absent, Rights, State, said, changed, M, _>>=_, _>>_, ret, look, each, when, halt, plainly, inside, need, update, pay, set-var, set-cell, tell, sixteen, own, undoing}
 use Rattle.monitor.specs.Syntax.{Exp, const, var, add, minus, equal, less, query, Cmd, skip, assign, seq, branch, while, put, clear, out, grant, revoke, raise, exp-of, cmd-of}
+use Rattle.monitor.specs.declared.Amount.{Amount}
+use Rattle.monitor.specs.declared.Amount.the-variants.{Exact, Nothing}
 
 -- ---- expressions
 
@@ -94,20 +96,27 @@ unfoldable pub best : (ℤ → ℤ → Bool) → ℤ → List ℤ → ℤ
 best beats z [] = z
 best beats z (x ∷ xs) = best beats (cond (beats x z) x z) xs
 
--- 0 if none is present
-unfoldable pub best-of : (ℤ → ℤ → Bool) → List ℤ → ℤ
-best-of beats [] = pos 0
-best-of beats (z ∷ zs) = best beats z zs
+-- nothing if none is present
+unfoldable pub best-of : (ℤ → ℤ → Bool) → List ℤ → Amount
+best-of beats [] = Nothing
+best-of beats (z ∷ zs) = Exact (best beats z zs)
 
--- 8 count of present cells, 9 their sum, 10 smallest, 11 largest
-unfoldable pub aggregate : ℕ → List Cell → ℤ
+-- of the present cells: 8 how many, 9 their sum, 10 the smallest, 11 the largest. Where there is none, 8 and 9 are 0, and 10 and 11 are not there
+unfoldable pub aggregate : ℕ → List Cell → Amount
 aggregate kind cells =
     let amounts : List ℤ = amounts-of cells in
-    cond (eqb kind 8) (count-of amounts) (cond (eqb kind 9) (sum-of amounts) (cond (eqb kind 10) (best-of ltZ amounts) (best-of (λ x y. ltZ y x) amounts)))
+    cond (eqb kind 8)
+    (Exact (count-of amounts))
+    (cond (eqb kind 9) (Exact (sum-of amounts)) (cond (eqb kind 10) (best-of ltZ amounts) (best-of (λ x y. ltZ y x) amounts)))
 
 -- 22: sums and differences are exact; a final value outside signed 32 bits stops on that expression's node
 unfoldable pub ranged : ℕ → Lab ℤ → M (Lab ℤ)
 ranged i x = need (plainly (fits-32 (x .val))) 22 i >> ret x
+
+-- what a query found, with the label of what it saw: 22 as above, or, where that is nothing, 31 on the query's node
+unfoldable pub found : ℕ → Label → Amount → M (Lab ℤ)
+found i l (Exact z) = ranged i (record { val = z; lab = l })
+found i l Nothing = halt 31 i
 
 -- what an expression gives, once its own cost is paid; children are evaluated in the order a, b, c, d
 unfoldable pub expr : (ℕ → M (Lab ℤ)) → ℕ → Exp → M (Lab ℤ)
@@ -142,7 +151,7 @@ expr ev i (query kind p a b c d) = do
   y ← ev c
   z ← ev d
   cells ← look (seen p (box-of w x y z))
-  ranged i (lift (aggregate kind) cells)
+  found i (cells .lab) (aggregate kind (cells .val))
 
 -- ---- commands
 
@@ -318,11 +327,11 @@ module _ (book : Book) where
   cost-at i = cost-of (node-at book i .kind)
 
   unfoldable pub eval : ℕ → ℕ → M (Lab ℤ)
-  eval zero i = λ s. stop [] (record { number = 21; node = i; compared = no-sets }) s
+  eval zero i = halt 21 i
   eval (suc fuel) i = pay (cost-at i) i >> expr (eval fuel) i (exp-of (node-at book i))
 
   unfoldable pub exec : Mode → ℕ → Env → ℕ → M (Unit {0})
-  exec mode zero e i = λ s. stop [] (record { number = 21; node = i; compared = no-sets }) s
+  exec mode zero e i = halt 21 i
   exec mode (suc fuel) e i = pay (cost-at i) i >> command mode (eval fuel) (exec mode fuel) e i (cmd-of (node-at book i))
 
   -- a program: sixteen variables 0 of empty label, and the empty context

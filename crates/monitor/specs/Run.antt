@@ -1,6 +1,5 @@
 -- Runs: from a state to its end or to a stop, each with the trace records written meanwhile.
--- `guard` is the only source of stops but for the end of fuel in Rules.antt, which is a 21 too; `tell` is the only writer of records,
--- `pay` the only reader of the budget.
+-- All stops come from `guard` and `halt`; only `tell` writes records, and only `pay` looks at the budget.
 use mathlib.Core.List.{List, [], _∷_, _++_}
 use mathlib.Core.Bool.{Bool, true, false, not, _||_, cond}
 use Prim.Native.Nat.{ℕ, _-_}
@@ -95,6 +94,10 @@ each (x ∷ xs) f = f x >> each xs f
 -- where the test holds
 unfoldable pub when : Bool → M (Unit {0}) → M (Unit {0})
 when x m = λ s. elim x [ true ↦ m s | false ↦ done [] tt s ]
+
+-- stops with number n on node i; not about labels
+abbrev pub halt : {A : Type 0} → ℕ → ℕ → M A
+halt n i = λ s. stop [] (record { number = n; node = i; compared = no-sets }) s
 
 -- ---- tests
 

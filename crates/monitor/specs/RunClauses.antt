@@ -5,7 +5,7 @@ use mathlib.Core.Bool.{true, false}
 use Prim.Native.Nat.{ℕ, _+_}
 use lib.IntN.{pos, negsuc, _-ℤ_}
 use Rattle.monitor.specs.Labelled.{lit, lift, lift2, via, under}
-use Rattle.monitor.specs.Run.{held, absent, Rights, State, said, done, stop, M, next, _>>_, each, when, about-labels, Compared, Test, plainly, inside, guard, need, update, spend, with-vars, with-cells, recorded, pay, set-var, set-cell, tell, sixteen, own, taken-back, undoing}
+use Rattle.monitor.specs.Run.{held, absent, Rights, State, said, done, stop, M, next, _>>_, each, when, halt, about-labels, Compared, Test, plainly, inside, guard, need, update, spend, with-vars, with-cells, recorded, pay, set-var, set-cell, tell, sixteen, own, taken-back, undoing}
 use Rattle.monitor.specs.Samples.{went, halted, ending, final, counts, labelled, eight, sample, having}
 
 -- two sets of one word
@@ -75,13 +75,16 @@ pub record RunClauses : Type 0 where
   pub when-holds : ending (when true (telling 1) sample) ≡ went (said 1 (pos 100) ∷ []) tt
   pub when-not : ending (when false (telling 1) sample) ≡ went [] tt
   pub when-not-left : counts (final (when false (telling 1) sample)) ≡ 100 ∷ 5 ∷ []
+  -- a halt tells nothing, and leaves the state as it is
+  pub halts : ending (halt {A = ℕ} 31 9 sample) ≡ halted [] 31 9 (eight 0) (eight 0)
+  pub halts-left : counts (final (halt {A = ℕ} 31 9 sample)) ≡ 100 ∷ 5 ∷ []
   -- a test of labels: within or not, and the two sets; with no labels it passes. Else the sets are empty
   pub tests : inside true (6 ∷ []) (7 ∷ []) ∷ inside true (6 ∷ []) (3 ∷ []) ∷ inside false (6 ∷ []) (3 ∷ []) ∷ plainly true ∷ plainly false ∷ []
       ≡ record { passes = true; compared = sets 6 7 } ∷ record { passes = false; compared = sets 6 3 } ∷ record { passes = true; compared = sets 6 3 }
       ∷ record { passes = true; compared = record { tested = eight 0; bound = eight 0 } } ∷ record { passes = false; compared = record { tested = eight 0; bound = eight 0 } } ∷ []
   -- 25, 26, 27 and 29 are about labels
-  pub about : map about-labels (21 ∷ 22 ∷ 23 ∷ 24 ∷ 25 ∷ 26 ∷ 27 ∷ 28 ∷ 29 ∷ 30 ∷ [])
-      ≡ false ∷ false ∷ false ∷ false ∷ true ∷ true ∷ true ∷ false ∷ true ∷ false ∷ []
+  pub about : map about-labels (21 ∷ 22 ∷ 23 ∷ 24 ∷ 25 ∷ 26 ∷ 27 ∷ 28 ∷ 29 ∷ 30 ∷ 31 ∷ [])
+      ≡ false ∷ false ∷ false ∷ false ∷ true ∷ true ∷ true ∷ false ∷ true ∷ false ∷ false ∷ []
   -- a guard: passed, the run goes on from the state tested; failed, it stops there with number and node, and nothing is told
   pub guard-passes : ending (guard (λ s. always) 25 9 (telling 1) sample) ≡ went (said 1 (pos 100) ∷ []) tt
   pub guard-stops : ending (guard (λ s. never) 25 9 (telling 1) sample) ≡ halted [] 25 9 (8 ∷ []) (2 ∷ [])

@@ -1,4 +1,10 @@
-// The answers of a call that runs a book, of which the rules and the claims of this crate speak.
+// The answers of a query and of a call that runs a book, of which the rules and the claims of this crate speak.
+
+// What a query finds: an exact amount, not yet held to 32 bits; or nothing, where it is the smallest or largest of no present cell.
+pub enum Amount {
+    Exact(i64),
+    Nothing,
+}
 
 // A refusal with its number and the first bad record's index; a stop with its number, its node, the cost spent and the
 // trace bytes written; or a finished run with its cost and its trace bytes.

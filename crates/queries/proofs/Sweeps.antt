@@ -15,11 +15,12 @@ use Rattle.monitor.specs.Labelled.{Label, bottom, Lab}
 use Rattle.monitor.specs.Run.{Cell}
 use Rattle.monitor.specs.Rules.{in-box}
 use Rattle.machine.specs.Store.{row-at, present-row, label-row, cells-held}
+use Rattle.monitor.specs.declared.Amount.{Amount}
 use Rattle.queries.specs.declared.Found.{Found}
 use Rattle.queries.specs.Found.{box, found-in}
-use Rattle.queries.specs.Tallies.{start-of, with-amount, value-of, first-from, first-above}
+use Rattle.queries.specs.Tallies.{start-of, with-amount, amount-of, first-from, first-above}
 use Rattle.queries.proofs.Boxes.{from-le, above-le, in-yes, owner-below, owner-above, line-below, line-above}
-use Rattle.queries.proofs.Tallies.{value-is}
+use Rattle.queries.proofs.Tallies.{amount-is}
 use Rattle.queries.proofs.Passed.{Passed, passed-none, pass-over, pass-absent, pass-present}
 
 module _ (kind : ℕ) (cells : ℕ → Lab Cell) (first last low high : ℤ) (table : ℕ) where
@@ -80,11 +81,11 @@ module _ (kind : ℕ) (cells : ℕ → Lab Cell) (first last low high : ℤ) (ta
 
   -- past the last owner: the answer of the rules
   pub found : {o : ℕ} {t : ℤ} {l : Label} → first-above last ≤ o → AtOwner o t l
-      → _≡_ {A = Found} (record { value = value-of kind t; label = l }) (found-in kind cells (box first last low high) table)
+      → _≡_ {A = Found} (record { amount = amount-of kind t; label = l }) (found-in kind cells (box first last low high) table)
   unfolding found-in
   found {o} h at =
       let all = over (8 * o) 64 (omega arith) (λ i a b. owner-above first last low high table i (omega arith) (omega arith)) (at .swept) in
-      ap₂ (λ (v : ℤ) (l : Label). record { value = v; label = l }) (ap (value-of kind) (all .tally-is) ∙ value-is _ (all .within) kind) (all .label-is)
+      ap₂ (λ (a : Amount) (l : Label). record { amount = a; label = l }) (ap (amount-of kind) (all .tally-is) ∙ amount-is _ (all .within) kind) (all .label-is)
 
 -- ---- a place in the box
 

@@ -1,5 +1,5 @@
--- The tally of a list of amounts: one amount more at its end, the values that the rules find in it, and its range.
-use mathlib.Core.Path.{_≡_, refl, sym, _∙_}
+-- The tally of a list of amounts: one amount more at its end, what the rules find in it, and its range.
+use mathlib.Core.Path.{_≡_, refl, sym, ap, _∙_}
 use mathlib.Core.List.{List, [], _∷_, _++_}
 use mathlib.Core.Bool.{Bool, true, false, cond}
 use Prim.Native.Nat.{ℕ, suc, _+_, _-_, _≤_, _<_}
@@ -11,7 +11,8 @@ use lib.Signed.{mag, ltZ}
 use borrow.Author.Tests.{lt-ltb, le-ltb, ne-eqb}
 use Rattle.monitor.specs.Run.{Cell}
 use Rattle.monitor.specs.Rules.{amounts-of, count-of, sum-of, best, best-of, aggregate}
-use Rattle.queries.specs.Tallies.{start-of, with-amount, with-amounts, tally-of, value-of}
+use Rattle.monitor.specs.declared.Amount.the-variants.{Exact}
+use Rattle.queries.specs.Tallies.{start-of, with-amount, with-amounts, tally-of, no-amount, amount-of}
 
 -- ---- one more at the end
 
@@ -76,8 +77,8 @@ unfolding with-amounts with-amount best
 least t [] = refl
 least t (z ∷ zs) = least (cond (ltZ z t) z t) zs
 
-least-is : {zs : List ℤ} → Within zs → value-of 10 (best ltZ (pos 2147483648) zs) ≡ best-of ltZ zs
-unfolding value-of best best-of
+least-is : {zs : List ℤ} → Within zs → amount-of 10 (best ltZ (pos 2147483648) zs) ≡ best-of ltZ zs
+unfolding no-amount amount-of best best-of
 least-is nothing = refl
 least-is (more {z} {zs} h w) =
     let small : mag (best ltZ z zs) < 2147483648 = best-small ltZ z h w in
@@ -89,8 +90,8 @@ module _ (kind : ℕ) (a : eqb kind 8 ≡ false) (b : eqb kind 9 ≡ false) (d :
   most t [] = refl
   most t (z ∷ zs) = rw (a, b, d) (most (cond (ltZ t z) z t) zs)
 
-  most-is : {zs : List ℤ} → Within zs → value-of kind (best (λ x y. ltZ y x) (negsuc 2147483648) zs) ≡ best-of (λ x y. ltZ y x) zs
-  unfolding value-of best best-of
+  most-is : {zs : List ℤ} → Within zs → amount-of kind (best (λ x y. ltZ y x) (negsuc 2147483648) zs) ≡ best-of (λ x y. ltZ y x) zs
+  unfolding no-amount amount-of best best-of
   most-is nothing = rw (a, b, d)
   most-is (more {z} {zs} h w) =
       let small : mag (best (λ x y. ltZ y x) z zs) < 2147483648 = best-small (λ x y. ltZ y x) z h w in
@@ -100,13 +101,13 @@ module _ (cells : List Cell) (w : Within (amounts-of cells)) where
   abbrev zs : List ℤ
   zs = amounts-of cells
 
-  pub value-is : (kind : ℕ) → value-of kind (tally-of kind zs) ≡ aggregate kind cells
-  unfolding start-of value-of aggregate
-  value-is kind = go (ℕ-discrete kind 8) (ℕ-discrete kind 9) (ℕ-discrete kind 10)
+  pub amount-is : (kind : ℕ) → amount-of kind (tally-of kind zs) ≡ aggregate kind cells
+  unfolding start-of no-amount amount-of aggregate
+  amount-is kind = go (ℕ-discrete kind 8) (ℕ-discrete kind 9) (ℕ-discrete kind 10)
     where
-      go : Dec (kind ≡ 8) → Dec (kind ≡ 9) → Dec (kind ≡ 10) → value-of kind (tally-of kind zs) ≡ aggregate kind cells
-      go (yes e) y z = rw e (counts (pos 0) zs ∙ +ℤ-idl (count-of zs))
-      go (no n) (yes e) z = rw e (sums (pos 0) zs ∙ +ℤ-idl (sum-of zs))
+      go : Dec (kind ≡ 8) → Dec (kind ≡ 9) → Dec (kind ≡ 10) → amount-of kind (tally-of kind zs) ≡ aggregate kind cells
+      go (yes e) y z = rw e (ap Exact (counts (pos 0) zs ∙ +ℤ-idl (count-of zs)))
+      go (no n) (yes e) z = rw e (ap Exact (sums (pos 0) zs ∙ +ℤ-idl (sum-of zs)))
       go (no n) (no m) (yes e) = rw e (rw (least (pos 2147483648) zs) (least-is w))
       go (no n) (no m) (no l) =
           let a = ne-eqb kind 8 n in

@@ -16,8 +16,8 @@ box first last low high = record { owners = record { first = first; last = last 
 abbrev pub box-in : List ℤ → Box
 box-in bounds = box (getD bounds 0 (pos 0)) (getD bounds 1 (pos 0)) (getD bounds 2 (pos 0)) (getD bounds 3 (pos 0))
 
--- the value of a query of this kind over the cells of a table that lie in the box, with the labels of all of them
+-- what a query of this kind finds among the cells of a table that lie in the box, with the labels of all of them
 unfoldable pub found-in : ℕ → (ℕ → Lab Cell) → Box → ℕ → Found
 found-in kind cells x table =
     let seen : Lab (List Cell) = gather cells (in-box x) (64 * table) 64 in
-    record { value = aggregate kind (seen .val); label = seen .lab }
+    record { amount = aggregate kind (seen .val); label = seen .lab }

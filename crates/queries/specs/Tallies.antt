@@ -1,10 +1,12 @@
 -- What a query works out of the present cells, and the numbers of a box that lie in a table.
 use mathlib.Core.List.{List, [], _∷_}
-use mathlib.Core.Bool.{cond}
+use mathlib.Core.Bool.{Bool, false, cond}
 use Prim.Native.Nat.{ℕ, _+_, min}
 use lib.Dec.{eqb}
 use lib.IntN.{ℤ, pos, negsuc, _+ℤ_}
 use lib.Signed.{ltZ}
+use Rattle.monitor.specs.declared.Amount.{Amount}
+use Rattle.monitor.specs.declared.Amount.the-variants.{Exact, Nothing}
 
 -- the tally of no amounts: 0, or for 10 smallest and 11 largest a number past every amount of 32 bits
 unfoldable pub start-of : ℕ → ℤ
@@ -26,12 +28,14 @@ with-amounts kind t (z ∷ zs) = with-amounts kind (with-amount kind t z) zs
 abbrev pub tally-of : ℕ → List ℤ → ℤ
 tally-of kind zs = with-amounts kind (start-of kind) zs
 
--- the value of a query of this kind, from the tally of the amounts: a smallest or largest that is still past every amount is 0
-unfoldable pub value-of : ℕ → ℤ → ℤ
-value-of kind t =
-    cond (eqb kind 8)
-    t
-    (cond (eqb kind 9) t (cond (eqb kind 10) (cond (ltZ (pos 2147483647) t) (pos 0) t) (cond (ltZ t (negsuc 2147483647)) (pos 0) t)))
+-- whether a tally has no amount: a smallest or largest that is still past every amount; count and sum always have one
+unfoldable pub no-amount : ℕ → ℤ → Bool
+no-amount kind t =
+    cond (eqb kind 8) false (cond (eqb kind 9) false (cond (eqb kind 10) (ltZ (pos 2147483647) t) (ltZ t (negsuc 2147483647))))
+
+-- what a query of this kind finds, from the tally of the amounts
+unfoldable pub amount-of : ℕ → ℤ → Amount
+amount-of kind t = cond (no-amount kind t) Nothing (Exact t)
 
 -- the first of the numbers 0 to 7 that is not below a bound, or 8
 unfoldable pub first-from : ℤ → ℕ

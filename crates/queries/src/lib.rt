@@ -1,15 +1,16 @@
 // Queries: count, sum, smallest and largest over the cells of a table in a box of owners and lines.
 use machine::Sets;
+use monitor::Amount;
 ghost use mathlib.Core.Path.{_≡_};
 ghost use Prim.Native.Nat.{_^_, _<_};
 ghost use lib.Signed.{mag};
 ghost use Rattle.machine.specs.Store.{cells-held};
 ghost use Rattle.queries.specs.Found.{box-in, found-in};
-ghost use Rattle.queries.specs.Tallies.{start-of, with-amount, value-of, first-from, first-above};
+ghost use Rattle.queries.specs.Tallies.{start-of, with-amount, no-amount, amount-of, first-from, first-above};
 
-// The value that a query finds, not yet held to 32 bits, and the labels of all cells in its box.
+// What a query finds, and the labels of all cells in its box.
 pub struct Found {
-    pub value: i64,
+    pub amount: Amount,
     pub label: [u64; 8],
 }
 
@@ -66,16 +67,26 @@ fn first_above(bound: i32) -> usize
     bound as usize + 1
 }
 
-// The value of a tally: 0 if no cell is present.
-fn valued(kind: u8, tally: i64) -> i64
-    ensures { λ r. ⌜ r ≡ value-of kind tally ⌝ }
+// Whether a tally has no amount for a query to give: where a smallest or largest is still past every amount. Count and sum always have one.
+fn is_nothing(kind: u8, tally: i64) -> bool
+    ensures { λ r. ⌜ r ≡ no-amount kind tally ⌝ }
 {
     match kind {
-        8 => tally,
-        9 => tally,
-        10 => if 2147483647 < tally { 0 } else { tally },
-        _ => if tally < -2147483648 { 0 } else { tally },
+        8 => false,
+        9 => false,
+        10 => 2147483647 < tally,
+        _ => tally < -2147483648,
     }
+}
+
+// What a query finds, from the tally of the present cells in its box.
+fn amount(kind: u8, tally: i64) -> Amount
+    ensures { λ r. ⌜ r ≡ amount-of kind tally ⌝ }
+{
+    if is_nothing(kind, tally) {
+        return Amount::Nothing;
+    }
+    Amount::Exact(tally)
 }
 
 // A query of kind 8 to 11. The four bounds are the first and the last owner, and the first and the last line; they may lie outside 0 to 7.
@@ -106,7 +117,7 @@ pub fn query(kind: u8, table: usize, bounds: &[i32; 4], cells: &[i32; 512], sets
         owner += 1;
     }
     Found {
-        value: valued(kind, tally),
+        amount: amount(kind, tally),
         label,
     }
 }

@@ -26,7 +26,7 @@ const STACK: usize = 256 << 20;
 #[derive(Default)]
 struct Tally {
     /// How many runs ended with each number: 0 finished, 1 to 10 refused, 21 to
-    /// 30 stopped.
+    /// 31 stopped.
     ends: BTreeMap<u32, u64>,
     /// How many explained runs named a place.
     named: u64,

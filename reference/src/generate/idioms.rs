@@ -73,7 +73,8 @@ impl Script<'_> {
     /// The value itself, or how it compares with a constant: often with what the
     /// spot holds at the start, so that another amount gives another outcome.
     fn compared(&mut self, value: Value, spot: usize) -> Value {
-        let held = self.world.amounts.get(spot).copied().unwrap_or(0);
+        let held = self.world.amounts.get(spot).copied().flatten();
+        let held = held.unwrap_or(0);
         let k = match self.random.below(10) {
             0..=4 => held,
             5..=6 => held.saturating_add(1),
@@ -131,8 +132,11 @@ impl Script<'_> {
             [key.node, owner, line, line],
             [owner, owner, line, key.node],
         ]);
+        let kind = self
+            .random
+            .weighted(&[(6, kind::SUM), (1, kind::SMALLEST), (1, kind::LARGEST)]);
         let read = Value {
-            node: self.push(kind::SUM, place.table, bounds),
+            node: self.push(kind, place.table, bounds),
             label: key.label | self.guess.cells(self.table_spots(place.table)),
         };
         let set = self.assign_value(variable, read);
@@ -182,6 +186,45 @@ impl Script<'_> {
         Some(self.put_value(target, value))
     }
 
+    /// The smallest or largest amount of a region, kept in a variable and used.
+    /// Whether a cell is there may be a secret: where it decides that the run
+    /// stops, or where it is asked first.
+    pub(super) fn doubtful(&mut self) -> Option<u16> {
+        let region = self.world.small_region(self.random);
+        let variable = self.changeable_variable()?;
+        let likely = self.world.has_present(self.world.covers[region]);
+        let keep = if self.random.chance(if likely { 80 } else { 20 }) {
+            let extreme = self.extreme_of_region(region);
+            self.assign_value(variable, extreme)
+        } else {
+            self.asked_first(variable, region)
+        };
+        let probe = self.probe(variable);
+        Some(self.then(keep, probe))
+    }
+
+    /// The variable gets the amount only if a cell is present. For that it is
+    /// raised by the region.
+    fn asked_first(&mut self, variable: u8, region: usize) -> u16 {
+        let ready = self.raise_by(variable, region);
+        let count = self.query_of_region(kind::COUNT, region);
+        let outside = self.guess.context;
+        self.guess.context = outside | count.label;
+        let before = *self.guess;
+        let extreme = self.extreme_of_region(region);
+        let set = self.assign_value(variable, extreme);
+        self.guess.join(&before);
+        self.guess.context = outside;
+        let skip = self.skip();
+        let choice = self.push(kind::IF, 0, [count.node, set, skip, 0]);
+        self.then(ready, choice)
+    }
+
+    fn extreme_of_region(&mut self, region: usize) -> Value {
+        let kind = self.random.pick(&[kind::SMALLEST, kind::LARGEST]);
+        self.query_of_region(kind, region)
+    }
+
     /// In a trigger: puts the amount it runs for at the same key of some table,
     /// or counts its turns in a cell.
     pub(super) fn react(&mut self) -> Option<u16> {
@@ -207,12 +250,39 @@ impl Script<'_> {
         let writes = self.react().unwrap_or_else(|| self.skip());
         let more = self.block(length, 0);
         let before = self.then(writes, more);
-        let stop = match self.random.below(6) {
+        let stop = match self.random.below(10) {
             0 => self.too_large(),
             1 => self.outside(),
+            2..=5 => self.of_nothing(),
             _ => self.leak(),
         };
         self.then(before, stop)
+    }
+
+    /// An assignment of the smallest or largest of one cell: mostly of a spot that
+    /// is absent at the start, or else of the last place of a table.
+    fn of_nothing(&mut self) -> u16 {
+        let count = self.world.spots.len();
+        let first = self.random.below(count);
+        let absent = (0..count)
+            .map(|step| (first + step) % count)
+            .find(|&spot| self.world.amounts[spot].is_none());
+        let kind = self.random.pick(&[kind::SMALLEST, kind::LARGEST]);
+        let extreme = match absent {
+            _ if self.random.chance(25) => self.query_of_spot(kind, first),
+            Some(spot) => self.query_of_spot(kind, spot),
+            None => self.query_of_last_place(kind, self.world.spots[first].table),
+        };
+        let variable = self.any_variable();
+        self.assign_value(variable, extreme)
+    }
+
+    fn query_of_last_place(&mut self, kind: u8, table: u8) -> Value {
+        let seven = self.constant(7).node;
+        Value {
+            node: self.push(kind, table, [seven; 4]),
+            label: self.guess.cells(self.table_spots(table)),
+        }
     }
 
     /// An assignment of an amount that leaves 32 bits.

@@ -46,6 +46,7 @@ enum Choice {
     SecretRead,
     Leak,
     Copy,
+    Doubtful,
     React,
     Loop,
     Repeat,
@@ -165,6 +166,7 @@ impl<'a> Script<'a> {
             (5 * nested, Choice::SecretRead),
             (10 * nested, Choice::Leak),
             (6, Choice::Copy),
+            (5, Choice::Doubtful),
             (20 * (1 - program), Choice::React),
             (10 * nested * program, Choice::Loop),
             (2, Choice::Repeat),
@@ -189,6 +191,7 @@ impl<'a> Script<'a> {
             Choice::SecretRead => self.secret_read(),
             Choice::Leak => Some(self.leak()),
             Choice::Copy => self.copy(),
+            Choice::Doubtful => self.doubtful(),
             Choice::React => self.react(),
             Choice::Loop => self.repeat(depth - 1),
             Choice::Repeat => self.shared_command(),
@@ -273,7 +276,11 @@ impl<'a> Script<'a> {
 
     /// One cell's amount, mostly, or whether it is present.
     pub(super) fn spot_query(&mut self, spot: usize) -> Value {
-        let kind = self.query_kind();
+        let kind = self.query_kind(1 << spot);
+        self.query_of_spot(kind, spot)
+    }
+
+    pub(super) fn query_of_spot(&mut self, kind: u8, spot: usize) -> Value {
         let place = self.world.spots[spot];
         let owner = self.constant(i32::from(place.owner)).node;
         let line = self.constant(i32::from(place.line)).node;
@@ -283,18 +290,26 @@ impl<'a> Script<'a> {
         }
     }
 
-    /// Mostly a sum: for one cell that is its amount.
-    fn query_kind(&mut self) -> u8 {
+    /// Mostly a sum: for one cell that is its amount. Rarely a smallest or
+    /// largest if none of the spots is present at the start, as a run stops where
+    /// there is none.
+    fn query_kind(&mut self, spots: Spots) -> u8 {
+        let likely = self.world.has_present(spots) || self.random.chance(10);
+        let extreme = usize::from(likely);
         self.random.weighted(&[
             (2, kind::COUNT),
             (6, kind::SUM),
-            (1, kind::SMALLEST),
-            (1, kind::LARGEST),
+            (extreme, kind::SMALLEST),
+            (extreme, kind::LARGEST),
         ])
     }
 
     pub(super) fn region_query(&mut self, region: usize) -> Value {
-        let kind = self.query_kind();
+        let kind = self.query_kind(self.world.covers[region]);
+        self.query_of_region(kind, region)
+    }
+
+    pub(super) fn query_of_region(&mut self, kind: u8, region: usize) -> Value {
         let bounds = self.world.regions[region];
         let children = [
             self.constant(i32::from(bounds.owner_first)).node,
@@ -310,7 +325,8 @@ impl<'a> Script<'a> {
 
     /// A query with any bounds: far outside, crossed, or taken from cells.
     fn odd_query(&mut self, depth: usize) -> Value {
-        let kind = self.query_kind();
+        // Such bounds often hold no cell.
+        let kind = self.query_kind(0);
         let spot = self.random.pick(&self.world.spots);
         let mut label = self.guess.cells(self.table_spots(spot.table));
         let mut bound = |usual: u8| {

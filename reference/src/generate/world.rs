@@ -25,8 +25,8 @@ pub(super) struct Spot {
 pub(super) struct World {
     pub(super) spots: Vec<Spot>,
     pub(super) cells: Vec<Cell>,
-    /// By spot, its amount at the start; 0 where it is absent.
-    pub(super) amounts: Vec<i32>,
+    /// By spot, its amount at the start, if it is present.
+    pub(super) amounts: Vec<Option<i32>>,
     pub(super) regions: Vec<Region>,
     /// By region, the spots in it.
     pub(super) covers: Vec<Spots>,
@@ -124,6 +124,12 @@ impl World {
                 self.add_right(kind, user, region);
             }
         }
+    }
+
+    /// Whether one of these spots is present at the start.
+    pub(super) fn has_present(&self, spots: Spots) -> bool {
+        let mut amounts = self.amounts.iter().enumerate();
+        amounts.any(|(spot, amount)| spots >> spot & 1 == 1 && amount.is_some())
     }
 
     /// The smallest of a few regions, as most secrets and rights are small.
@@ -295,11 +301,11 @@ fn cells(random: &mut Random, size: Size, spots: &[Spot]) -> Vec<Cell> {
     cells
 }
 
-fn amount_at(spot: &Spot, cells: &[Cell]) -> i32 {
+fn amount_at(spot: &Spot, cells: &[Cell]) -> Option<i32> {
     cells
         .iter()
         .find(|cell| (cell.table, cell.owner, cell.line) == (spot.table, spot.owner, spot.line))
-        .map_or(0, |cell| cell.amount)
+        .map(|cell| cell.amount)
 }
 
 /// Mostly an amount that is also a key, sometimes one at the edge of the range.

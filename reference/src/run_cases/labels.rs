@@ -30,14 +30,17 @@ fn operators() -> Vec<Vec<u8>> {
     files
 }
 
-/// Every query of public cells, with one bound that is not.
+/// Every query of public cells, with one bound that is not. There is a cell
+/// between any of the bounds of a smallest or largest.
 fn queries() -> Vec<Vec<u8>> {
     let mut files = Vec::new();
     for kind in kind::COUNT..=kind::LARGEST {
+        let last = if kind <= kind::SUM { 0 } else { 2 };
         for bound in 0..4 {
             for part in [1, 2] {
                 let mut b = office();
-                let mut bounds = [constant(&mut b, 0); 4];
+                b.cell(7, 2, 2, 6);
+                let mut bounds = [0, last, 0, last].map(|k| constant(&mut b, k));
                 bounds[bound] = PARTS[part](&mut b);
                 let value = b.query(kind, 7, bounds);
                 files.push(kept(b, value));

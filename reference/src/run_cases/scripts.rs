@@ -68,12 +68,14 @@ fn absent_cells() -> Builder {
     b
 }
 
-/// A query's label has those of its bounds, each one of the four in turn.
+/// A query's label has those of its bounds, each one of the four in turn. With
+/// any of them a cell is present.
 fn secret_bounds() -> Builder {
     let mut b = office();
-    let open = constant(&mut b, 0);
+    b.cell(7, 2, 2, 6);
+    let [first, last] = [0, 2].map(|k| constant(&mut b, k));
     for bound in 0..4 {
-        let mut bounds = [open; 4];
+        let mut bounds = [first, last, first, last];
         bounds[bound] = held(&mut b, B);
         let value = b.query(kind::LARGEST, 7, bounds);
         let put = put(&mut b, 1, [0, bound as i32], value);

@@ -1,5 +1,5 @@
 //! Commands that stop a run with 22 to 30, each in many places of a book. (21
-//! is met at every node by the sweeps.)
+//! is met at every node by the sweeps; 31 has cases of its own.)
 
 use super::office::{
     amount, assign, block, clear, constant, held, office, operate, put, query, set, tell,
@@ -10,14 +10,14 @@ use crate::book::{kind, Book};
 use crate::builder::Builder;
 
 /// A command that stops with a number, by the program or trigger of a user.
-struct Fault {
+pub(super) struct Fault {
     number: u32,
     user: u8,
     trace: u32,
     make: fn(&mut Builder) -> u16,
 }
 
-fn fault(number: u32, make: fn(&mut Builder) -> u16) -> Fault {
+pub(super) fn fault(number: u32, make: fn(&mut Builder) -> u16) -> Fault {
     Fault {
         number,
         user: 0,
@@ -31,7 +31,7 @@ impl Fault {
         Fault { user, ..self }
     }
 
-    fn with_trace(self, trace: u32) -> Fault {
+    pub(super) fn with_trace(self, trace: u32) -> Fault {
         Fault { trace, ..self }
     }
 }
@@ -53,8 +53,13 @@ fn numbered() -> Vec<(u32, Case)> {
         grants(),
         traces(),
     ];
+    in_settings(faults.into_iter().flatten())
+}
+
+/// Each of the commands in every setting that it may stand in, with its number.
+pub(super) fn in_settings(faults: impl IntoIterator<Item = Fault>) -> Vec<(u32, Case)> {
     let mut cases = Vec::new();
-    for fault in faults.into_iter().flatten() {
+    for fault in faults {
         for (number, setting) in SETTINGS.into_iter().enumerate() {
             let mut b = office();
             // So that it stops on another node in each setting.

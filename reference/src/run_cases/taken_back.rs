@@ -236,7 +236,10 @@ fn at_ends(table: u8) -> Vec<Story> {
 fn everywhere() -> Vec<Story> {
     let mut stories = Vec::new();
     // The secret is none any more, so it stops nothing.
-    for fault in FAULTS.iter().filter(|fault| fault.number < 25) {
+    for fault in FAULTS
+        .iter()
+        .filter(|fault| !matches!(fault.number, 25 | 26))
+    {
         for own in [OWNS[1], OWNS[2]] {
             let mut b = ledger();
             b.book.cells.extend(row(3).chain(row(7)));
@@ -339,19 +342,28 @@ fn in_the_program() -> Vec<Story> {
             stories.push((number, case.with_trace(trace), left));
         }
     }
-    stories.push(by_another_user());
+    stories.extend(by_another_user());
     stories
 }
 
 /// A later program's user may not change rights.
-fn by_another_user() -> Story {
-    let mut b = noting(&FAULTS[0]);
-    let before = set(&mut b, 1, [0, 0], 20);
-    b.program(0, before);
-    let left = b.book.encode();
-    let revoke = b.revoke_write(0, 1);
-    b.program(4, revoke);
-    (28, Case::ample(b.book.encode()), left)
+fn by_another_user() -> Vec<Story> {
+    let changes: [fn(&mut Builder) -> u16; 4] = [
+        |b| b.revoke_write(0, 1),
+        |b| b.revoke_read(0, 1),
+        |b| b.grant_write(4, 1),
+        |b| b.grant_read(4, 1),
+    ];
+    let stopping = |change: fn(&mut Builder) -> u16| {
+        let mut b = noting(&FAULTS[0]);
+        let before = set(&mut b, 1, [0, 0], 20);
+        b.program(0, before);
+        let left = b.book.encode();
+        let root = change(&mut b);
+        b.program(4, root);
+        (28, Case::ample(b.book.encode()), left)
+    };
+    changes.map(stopping).to_vec()
 }
 
 /// Stops on a put or clear that would set triggers off, after a posting that has

@@ -34,7 +34,8 @@ fn operators() -> Vec<Vec<u8>> {
 const QUERIES: [u8; 4] = [kind::COUNT, kind::SUM, kind::SMALLEST, kind::LARGEST];
 
 /// All four queries, put into cells, with these ranges of owners and lines:
-/// inside, at the ends, outside, and with first above last.
+/// inside, at the ends, outside, and with first above last. Where no cell is
+/// present, the third one stops the run.
 fn queries() -> Vec<Vec<u8>> {
     let ranges = [
         [0, 7],

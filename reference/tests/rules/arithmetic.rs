@@ -1,4 +1,4 @@
-//! Values of expressions, and stop 22.
+//! Values of expressions, and stop 22. (Stop 31 has tests of its own.)
 
 use crate::{cell, finish, program, put_at, run_amply, stop_of, three_cells};
 use reference::book::kind;
@@ -138,15 +138,16 @@ fn a_present_zero_counts() {
 }
 
 #[test]
-fn queries_of_nothing_are_zero() {
-    for query in [kind::COUNT, kind::SUM, kind::SMALLEST, kind::LARGEST] {
-        assert_eq!(over_amounts(query, &[]), Ok(0));
-    }
+fn only_counts_and_sums_of_nothing_are_zero() {
+    assert_eq!(over_amounts(kind::COUNT, &[]), Ok(0));
+    assert_eq!(over_amounts(kind::SUM, &[]), Ok(0));
+    assert_eq!(over_amounts(kind::SMALLEST, &[]), Err(31));
+    assert_eq!(over_amounts(kind::LARGEST, &[]), Err(31));
 }
 
 /// Count, sum, smallest and largest with these bounds over cells
 /// (1,1,1) = 5, (1,1,2) = -3, (1,2,1) = 9, (1,7,7) = 4 and (2,1,1) = 100.
-fn over(owners: (i32, i32), lines: (i32, i32)) -> [i32; 4] {
+fn over(owners: (i32, i32), lines: (i32, i32)) -> [Result<i32, u32>; 4] {
     [kind::COUNT, kind::SUM, kind::SMALLEST, kind::LARGEST].map(|query| {
         let mut b = three_cells();
         b.cell(1, 1, 1, 5);
@@ -156,40 +157,43 @@ fn over(owners: (i32, i32), lines: (i32, i32)) -> [i32; 4] {
         b.cell(2, 1, 1, 100);
         let bounds = [owners.0, owners.1, lines.0, lines.1].map(|k| b.constant(k));
         let query = b.query(query, 1, bounds);
-        value(b, query).unwrap()
+        value(b, query)
     })
 }
 
+/// What the four answer where no cell is present.
+const OF_NOTHING: [Result<i32, u32>; 4] = [Ok(0), Ok(0), Err(31), Err(31)];
+
 #[test]
 fn queries_match_the_cells_between_their_bounds() {
-    assert_eq!(over((1, 2), (1, 2)), [3, 11, -3, 9]);
-    assert_eq!(over((1, 1), (1, 2)), [2, 2, -3, 5]);
-    assert_eq!(over((1, 2), (1, 1)), [2, 14, 5, 9]);
-    assert_eq!(over((1, 1), (2, 2)), [1, -3, -3, -3]);
-    assert_eq!(over((2, 2), (2, 2)), [0; 4]);
-    assert_eq!(over((0, 7), (0, 7)), [4, 15, -3, 9]);
+    assert_eq!(over((1, 2), (1, 2)), [3, 11, -3, 9].map(Ok));
+    assert_eq!(over((1, 1), (1, 2)), [2, 2, -3, 5].map(Ok));
+    assert_eq!(over((1, 2), (1, 1)), [2, 14, 5, 9].map(Ok));
+    assert_eq!(over((1, 1), (2, 2)), [1, -3, -3, -3].map(Ok));
+    assert_eq!(over((2, 2), (2, 2)), OF_NOTHING);
+    assert_eq!(over((0, 7), (0, 7)), [4, 15, -3, 9].map(Ok));
 }
 
 #[test]
 fn bounds_may_lie_far_outside() {
-    assert_eq!(over((MIN, MAX), (MIN, MAX)), [4, 15, -3, 9]);
-    assert_eq!(over((-1, 1), (1, 1)), [1, 5, 5, 5]);
-    assert_eq!(over((2, 1_000), (0, 1)), [1, 9, 9, 9]);
-    assert_eq!(over((7, 8), (7, MAX)), [1, 4, 4, 4]);
-    assert_eq!(over((8, MAX), (0, 7)), [0; 4]);
-    assert_eq!(over((MIN, -1), (0, 7)), [0; 4]);
-    assert_eq!(over((0, 7), (8, 9)), [0; 4]);
-    assert_eq!(over((0, 7), (-9, -1)), [0; 4]);
+    assert_eq!(over((MIN, MAX), (MIN, MAX)), [4, 15, -3, 9].map(Ok));
+    assert_eq!(over((-1, 1), (1, 1)), [1, 5, 5, 5].map(Ok));
+    assert_eq!(over((2, 1_000), (0, 1)), [1, 9, 9, 9].map(Ok));
+    assert_eq!(over((7, 8), (7, MAX)), [1, 4, 4, 4].map(Ok));
+    assert_eq!(over((8, MAX), (0, 7)), OF_NOTHING);
+    assert_eq!(over((MIN, -1), (0, 7)), OF_NOTHING);
+    assert_eq!(over((0, 7), (8, 9)), OF_NOTHING);
+    assert_eq!(over((0, 7), (-9, -1)), OF_NOTHING);
     // 257 is 1 in its lowest 8 bits.
-    assert_eq!(over((257, 257), (1, 1)), [0; 4]);
+    assert_eq!(over((257, 257), (1, 1)), OF_NOTHING);
 }
 
 #[test]
 fn first_above_last_matches_none() {
-    assert_eq!(over((2, 1), (0, 7)), [0; 4]);
-    assert_eq!(over((0, 7), (2, 1)), [0; 4]);
-    assert_eq!(over((MAX, MIN), (MAX, MIN)), [0; 4]);
-    assert_eq!(over((8, -1), (0, 7)), [0; 4]);
+    assert_eq!(over((2, 1), (0, 7)), OF_NOTHING);
+    assert_eq!(over((0, 7), (2, 1)), OF_NOTHING);
+    assert_eq!(over((MAX, MIN), (MAX, MIN)), OF_NOTHING);
+    assert_eq!(over((8, -1), (0, 7)), OF_NOTHING);
 }
 
 #[test]

@@ -41,8 +41,8 @@ fn each_expression_has_its_cost() {
     }
     for query in [kind::COUNT, kind::SUM, kind::SMALLEST, kind::LARGEST] {
         let of_query = |b: &mut Builder| {
-            let one = b.constant(1);
-            let result = b.query(query, 0, [one, one, one, one]);
+            let zero = b.constant(0);
+            let result = b.query(query, 0, [zero, zero, zero, zero]);
             b.assign(0, result)
         };
         assert_eq!(cost_of(of_query), 9);

@@ -6,6 +6,7 @@ mod common;
 mod context;
 mod cost;
 mod labels;
+mod nothing;
 mod output;
 mod programs;
 mod rights;

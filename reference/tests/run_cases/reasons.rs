@@ -1,6 +1,7 @@
 //! What the explained cases met.
 
 use super::commands::reached;
+use super::nothing::parts;
 use reference::book::{kind, Book};
 use reference::run::Answer;
 use reference::run_cases::{Case, ExplainedOutcome, Outcome};
@@ -74,7 +75,7 @@ impl Reasons {
             }
         }
         let without: Vec<u32> = self.without.keys().copied().collect();
-        let others: Vec<u32> = (0..=10).chain(21..=24).chain([28, 30]).collect();
+        let others: Vec<u32> = (0..=10).chain(21..=24).chain([28, 30, 31]).collect();
         assert_eq!(without, others);
         for (number, cases) in &self.without {
             assert!(*cases >= 20, "{number}: {cases} cases");
@@ -82,11 +83,22 @@ impl Reasons {
     }
 }
 
+/// The commands that are reached from these, and the expressions in them.
+fn nodes_of(book: &Book, commands: Vec<u16>) -> BTreeSet<u16> {
+    let mut nodes = reached(book, commands);
+    let mut waiting: Vec<u16> = nodes.iter().copied().collect();
+    while let Some(node) = waiting.pop() {
+        let parts = parts(&book.nodes[usize::from(node)]);
+        waiting.extend(parts.into_iter().filter(|&part| nodes.insert(part)));
+    }
+    nodes
+}
+
 /// Whether the node is in no program but in a trigger's body; and then whether
 /// no program can set off that trigger, so that another trigger has.
 pub fn in_trigger(book: &Book, node: u16) -> Option<bool> {
     let programs: Vec<u16> = book.programs.iter().map(|program| program.root).collect();
-    let own = reached(book, programs);
+    let own = nodes_of(book, programs);
     if own.contains(&node) {
         return None;
     }
@@ -104,7 +116,7 @@ pub fn in_trigger(book: &Book, node: u16) -> Option<bool> {
     let mut triggers = book
         .triggers
         .iter()
-        .filter(|trigger| reached(book, vec![trigger.body]).contains(&node));
+        .filter(|trigger| nodes_of(book, vec![trigger.body]).contains(&node));
     let nested = triggers.all(|trigger| {
         let region = book.regions[usize::from(trigger.region)];
         !writes(trigger.event, region.table)

@@ -9,7 +9,7 @@ use std::collections::{BTreeMap, BTreeSet};
 
 /// Stops that a trigger's body can come to, other than 21, with the kinds of
 /// node that they are on.
-const STOPS: [(u32, u8); 11] = [
+const STOPS: [(u32, u8); 13] = [
     (22, kind::ADD),
     (22, kind::SUBTRACT),
     (22, kind::SUM),
@@ -21,6 +21,8 @@ const STOPS: [(u32, u8); 11] = [
     (25, kind::RAISE),
     (26, kind::PUT),
     (26, kind::CLEAR),
+    (31, kind::SMALLEST),
+    (31, kind::LARGEST),
 ];
 
 const FEW: usize = 8;
@@ -29,8 +31,8 @@ const FEW: usize = 8;
 pub struct TakenBack {
     /// Stops that changed a cell, by number and by the kind of the node.
     stops: BTreeMap<(u32, u8), usize>,
-    /// Those of them on a command that only triggers have, by number and by
-    /// whether another trigger set it off.
+    /// Those of them on a node that only triggers have, by number and by whether
+    /// another trigger set it off.
     triggered: BTreeMap<(u32, bool), usize>,
     /// Those of them with something told before.
     with_trace: usize,
@@ -63,7 +65,7 @@ impl TakenBack {
         }
         let kind = book.nodes[node as usize].kind;
         *self.stops.entry((number, kind)).or_default() += 1;
-        if let (kind::SKIP.., Some(nested)) = (kind, in_trigger(&book, node as u16)) {
+        if let Some(nested) = in_trigger(&book, node as u16) {
             *self.triggered.entry((number, nested)).or_default() += 1;
         }
         self.with_trace += usize::from(bytes > 0);
@@ -81,8 +83,9 @@ impl TakenBack {
             assert!(stops >= Some(&least), "{stop:?}: {stops:?}");
         }
         let numbers: BTreeSet<u32> = self.stops.keys().map(|stop| stop.0).collect();
-        assert!(numbers.into_iter().eq(21..=26), "{self:?}");
-        for number in [21, 23, 24, 25, 26] {
+        let others = (21..=26).chain([31]);
+        assert!(numbers.into_iter().eq(others.clone()), "{self:?}");
+        for number in others {
             for nested in [false, true] {
                 let stops = self.triggered.get(&(number, nested));
                 assert!(stops >= Some(&8), "{number}: {stops:?}");
@@ -96,7 +99,7 @@ impl TakenBack {
         for count in (1..=FEW).chain([512]) {
             assert!(self.counts.contains(&count), "{self:?}");
         }
-        for number in 21..=30 {
+        for number in 21..=31 {
             let stops = self.without.get(&number);
             assert!(stops >= Some(&5), "{number}: {stops:?}");
         }

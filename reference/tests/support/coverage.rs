@@ -8,7 +8,7 @@ use reference::book::{kind, Book};
 pub struct Coverage {
     pub runs: usize,
     /// Runs by answer number.
-    pub answers: [usize; 31],
+    pub answers: [usize; 32],
     /// Runs of books that have a node of the kind.
     pub kinds: [usize; 27],
     /// Runs that wrote a trace.
@@ -41,7 +41,7 @@ impl Coverage {
         for kind in kinds {
             assert!(self.kinds[kind] >= kind_runs, "kind {kind}: {self:?}");
         }
-        for answer in std::iter::once(0).chain(21..=30) {
+        for answer in std::iter::once(0).chain(21..=31) {
             let runs = self.answers[answer];
             assert!(runs >= answer_runs, "answer {answer}: {self:?}");
         }

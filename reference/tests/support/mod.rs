@@ -87,6 +87,11 @@ impl Ended {
         is_for_labels(self.number)
     }
 
+    /// Whether the run asked for the smallest or largest of nothing.
+    pub fn of_nothing(&self) -> bool {
+        self.number == 31
+    }
+
     /// Whether a reason is given where there has to be one, and only there.
     fn is_explained(&self) -> bool {
         match self.place {

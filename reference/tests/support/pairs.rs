@@ -29,6 +29,10 @@ pub struct Pairs {
     pub stopped_for_labels: usize,
     /// Pairs of which at least one took a posting back.
     pub taken_back: usize,
+    /// Pairs of which at least one asked for the smallest or largest of nothing.
+    pub of_nothing: usize,
+    /// Those of them of which only one did.
+    pub of_nothing_once: usize,
 }
 
 impl Pairs {
@@ -43,12 +47,12 @@ impl Pairs {
             diverged: 0,
             stopped_for_labels: 0,
             taken_back: 0,
+            of_nothing: 0,
+            of_nothing_once: 0,
         }
     }
 
-    /// Makes and runs the book of this seed, and compares it with others; with
-    /// more of them where a test on labels stops it, or where it takes a posting
-    /// back.
+    /// Makes and runs the book of this seed, and compares it with others.
     pub fn check(&mut self, seed: u64) -> Result<(), String> {
         let mut random = Random::new(seed);
         let book = generate::often_failing(&mut random);
@@ -56,12 +60,21 @@ impl Pairs {
         self.first
             .run(&mut random, &book, &book.encode(), limits, Tests::Labelled)?;
         self.coverage.count(&book, &self.first);
-        let others = match (self.first.took_back(), self.first.ended.for_labels()) {
-            (true, _) => 4,
-            (_, true) => 3,
-            _ => 1,
-        };
+        let others = self.others();
         (0..others).try_for_each(|_| self.check_pair(&mut random, &book))
+    }
+
+    /// How many books to compare the first one with: more after the ends of which
+    /// many pairs are asked for.
+    fn others(&self) -> usize {
+        let first = &self.first;
+        match first.ended {
+            ended if ended.of_nothing() => 8,
+            _ if first.took_back() => 4,
+            ended if ended.for_labels() => 3,
+            _ if first.finished() => 2,
+            _ => 1,
+        }
     }
 
     /// Makes and runs a book that differs in what some group cannot reach; then
@@ -126,6 +139,9 @@ impl Pairs {
         let for_labels = one.ended.for_labels() || other.ended.for_labels();
         self.stopped_for_labels += usize::from(for_labels);
         self.taken_back += usize::from(one.took_back() || other.took_back());
+        let of_nothing = [one, other].map(|lent| lent.ended.of_nothing());
+        self.of_nothing += usize::from(of_nothing[0] || of_nothing[1]);
+        self.of_nothing_once += usize::from(of_nothing[0] != of_nothing[1]);
     }
 
     fn report(&self, book: &Book, other: &Book, group: u8, difference: &str) -> String {

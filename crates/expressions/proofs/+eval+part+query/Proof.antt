@@ -17,7 +17,7 @@ use Rattle.machine.specs.declared.Value.{Value}
 use Rattle.machine.proofs.Nodes.{pair-a, pair-b, query-p}
 use Rattle.expressions.specs.Values.{combine}
 use Rattle.expressions.proofs.Signed.{fits-word, kept, fits-is}
-use Rattle.expressions.proofs.Steps.{Held, fits-held, stop-held}
+use Rattle.expressions.proofs.Steps.{Held, fits-held, stop-held, Answered, exact-answered, nothing-answered}
 use Rattle.expressions.proofs.Parts.{node-in, first-stops, second-stops, combines}
 use Rattle.expressions.proofs.Bounds.{Bounding, bounding-starts, bounding-stops, bounding-turns, bounding-ends}
 use Rattle.expressions.proofs.Entries.{read, inside, kind-inside, pair-kind, query-kind, stops-21, pays, bound-read}
@@ -77,7 +77,7 @@ abbrev part-cs : ℕ → part-lts.Claims
 part-cs t = (eval-below t, eval.Post, leaf-reads.Asked, leaf-reads.Learnt)
 
 abbrev query-cs : ℕ → query-lts.Claims
-query-cs t = (u16-at-reads.Asked, u16-at-reads.Learnt, part-below t, part.Post, byte-at-reads.Asked, byte-at-reads.Learnt, query-reads.Asked, query-reads.Learnt, join-reads.Asked, join-reads.Learnt, fits-reads.Asked, fits-reads.Learnt, stop-reads.Asked, stop-reads.Learnt)
+query-cs t = (u16-at-reads.Asked, u16-at-reads.Learnt, part-below t, part.Post, byte-at-reads.Asked, byte-at-reads.Learnt, query-reads.Asked, query-reads.Learnt, join-reads.Asked, join-reads.Learnt, stop-reads.Asked, stop-reads.Learnt, fits-reads.Asked, fits-reads.Learnt)
 
 -- ---- the needs of `eval`
 
@@ -305,11 +305,11 @@ module _ (t : ℕ) where
       let s = script-of (o .args .code .now) in
       rw (p .byte-at .ensures .0 ∙ read (o .pre .1 .0) (o .pre .1 .1) .p) (query-p s (o .pre .1 .0 .sound) (o .args .n) (o .pre .1 .1 .inside) (o .pre .1 .2))
 
-  -- the cells in the box, and their value held to 32 bits
+  -- the cells in the box, and what they give
   query-gives : {r : Value} {run' : List ℕ} (c : query-lts.After-join (query-cs t) (query-at t) query.Post Inv-loop μ-loop) →
       let at = c .before .before .before .before .before .before .before .before .before in
       let o = at .before in
-      Held (o .args .n) (c .before .before .before .query .result .value) (at .loop .run) r run'
+      Answered (o .args .n) (c .before .before .before .query .result .amount) (at .loop .run) r run'
       → Gives (Expresses (o .args .code .now) (o .args .n)) (cells-held (o .args .cells .now) (o .args .sets .now)) (vars-of (o .args .vars .now) (o .args .tags .now))
       (o .args .run .now) (o .args .label .now) r run' (c .join .last .0)
   query-gives c h =
@@ -323,25 +323,33 @@ module _ (t : ℕ) where
 
   query-returns-2 : query-lts.Need-returns-2 (query-cs t) (query-at t) query.Post Inv-loop μ-loop
   query-returns-2 c =
-      let b = c .before .before .before in
-      let s = b .before in
-      let q = s .before .before .before .before in
-      query-gives (s .before) (stop-held (fits-is (q .query .result .value) (s .struct-told .given .0 .1) (b .fits2 .ensures) ∙ not-true _ (c .before .before .if1 .taken)) (c .stop .ensures .1))
-
-  query-cast-t42 : query-lts.Need-cast-t42 (query-cs t) (query-at t) query.Post Inv-loop μ-loop
-  query-cast-t42 c =
-      let s = c .before .before in
-      let z = s .before .before .before .before .query .result .value in
-      let ok = s .struct-told .given .0 .1 in
-      rw (kept w64 z ok) (fits-word (fits-is z ok (c .before .fits2 .ensures) ∙ not-false _ (c .if1 .left)))
+      let e = c .before .before in
+      query-gives (e .before .before) (nothing-answered (e .enum-told2 .given .1) (c .stop .ensures .1))
 
   query-returns-3 : query-lts.Need-returns-3 (query-cs t) (query-at t) query.Post Inv-loop μ-loop
   query-returns-3 c =
-      let s = c .before .before in
-      let z = s .before .before .before .before .query .result .value in
-      let ok = s .struct-told .given .0 .1 in
+      let b = c .before .before .before in
+      let k = b .before in
+      let a = k .before in
+      let z = a .amount .given .0 .0 in
+      let ok = k .known-told2 .given .0 .1 in
+      query-gives (a .before .before) (exact-answered (a .amount .given .1) (stop-held (fits-is z ok (b .fits2 .ensures) ∙ not-true _ (c .before .before .if1 .taken)) (c .stop2 .ensures .1)))
+
+  query-cast-t45 : query-lts.Need-cast-t45 (query-cs t) (query-at t) query.Post Inv-loop μ-loop
+  query-cast-t45 c =
+      let k = c .before .before in
+      let z = k .before .amount .given .0 .0 in
+      let ok = k .known-told2 .given .0 .1 in
+      rw (kept w64 z ok) (fits-word (fits-is z ok (c .before .fits2 .ensures) ∙ not-false _ (c .if1 .left)))
+
+  query-returns-4 : query-lts.Need-returns-4 (query-cs t) (query-at t) query.Post Inv-loop μ-loop
+  query-returns-4 c =
+      let k = c .before .before in
+      let a = k .before in
+      let z = a .amount .given .0 .0 in
+      let ok = k .known-told2 .given .0 .1 in
       let fits = fits-is z ok (c .before .fits2 .ensures) ∙ not-false _ (c .if1 .left) in
-      rw (kept w64 z ok, kept w32 z (fits-word fits .sfits)) (query-gives (s .before) (fits-held fits))
+      rw (kept w64 z ok, kept w32 z (fits-word fits .sfits)) (query-gives (a .before .before) (exact-answered (a .amount .given .1) (fits-held fits)))
 
 pub +eval+part+query-spec : {M : Type 1} → statement M
 +eval+part+query-spec = close μ-eval μ-part μ-query (λ t. eval-lts.spec (eval-cs t)
@@ -419,8 +427,12 @@ pub +eval+part+query-spec : {M : Type 1} → statement M
     (λ c. search needs)
     (query-query-requires t)
     (λ c κs. search needs)
-    (λ c κs. search needs)
+    (λ c. search needs)
+    (λ c. search needs)
     (λ c κs. search needs)
     (query-returns-2 t)
-    (query-cast-t42 t)
+    (λ c κs. search needs)
+    (λ c κs. search needs)
     (query-returns-3 t)
+    (query-cast-t45 t)
+    (query-returns-4 t)

@@ -10,6 +10,7 @@ use borrow.Author.Needs.{needs}
 use mir.Syntax.{w64}
 use mir.Val.{toZ}
 use mir.Facts.{toZ-ofZ}
+use Rattle.monitor.specs.declared.Amount.{Amount}
 use Rattle.machine.specs.Store.{cells-held}
 use Rattle.queries.specs.Tallies.{with-amount, first-from, first-above}
 use Rattle.queries.proofs.Sweeps.{AtOwner, AtLine, to-first-owner, to-first-line, to-next-owner, found, bit-lt, meet-absent, meet-present}
@@ -126,8 +127,7 @@ returns c =
     let o = c .before .before .loop in
     let read = c .before .before .before in
     let past : first-above (of read 1) ≤ o .owner = omega (arith, end-owner read) in
-    let value = toZ-ofZ (record { sfits = c .valued .ok }) ∙ c .valued .ensures in
-    ap (λ (v : ℤ). record { value = v; label = o .label }) value ∙ found (start read .args .kind) _ _ _ _ _ _ past (o .inv)
+    ap (λ (a : Amount). record { amount = a; label = o .label }) (c .amount .ensures) ∙ found (start read .args .kind) _ _ _ _ _ _ past (o .inv)
 
 pub query-spec : {M : Type 1} → statement M
 query-spec =

@@ -1,6 +1,9 @@
 //! What books with a failing posting are made of.
 
-use super::super::office::{amount, assign, clear, constant, put, set, tell, too_large, when};
+use super::super::office::{
+    amount, assign, clear, constant, put, query, set, tell, too_large, when,
+};
+use crate::book::kind;
 use crate::builder::Builder;
 
 /// A cell that holds 44 at the start.
@@ -44,7 +47,7 @@ const fn fault(number: u32, make: fn(&mut Builder) -> u16) -> Fault {
 }
 
 /// Those that a trigger may have too.
-pub(super) const FAULTS: [Fault; 11] = [
+pub(super) const FAULTS: [Fault; 13] = [
     fault(22, |b| {
         let value = too_large(b);
         b.assign(5, value)
@@ -58,6 +61,10 @@ pub(super) const FAULTS: [Fault; 11] = [
     fault(26, |b| {
         let command = set(b, 5, [1, 1], 1);
         in_secret(b, command)
+    }),
+    fault(31, |b| {
+        let value = query(b, kind::SMALLEST, 5, [3, 2, 0, 7]);
+        b.assign(5, value)
     }),
     fault(22, |b| {
         let value = too_large(b);
@@ -77,6 +84,10 @@ pub(super) const FAULTS: [Fault; 11] = [
         let [owner, line] = [secret(b), constant(b, 1)];
         b.put(5, owner, line, line)
     }),
+    fault(31, |b| {
+        let amount = query(b, kind::LARGEST, 5, [0, 7, 8, 9]);
+        put(b, 5, [0, 0], amount)
+    }),
 ];
 
 /// Those that only a program may have; 30 where the trace is full.
@@ -92,9 +103,12 @@ pub(super) const STOPS: [Fault; 3] = [
     fault(30, |b| tell(b, 3, 4)),
 ];
 
+/// An absent cell of table 1.
+const NONE: [i32; 4] = [6, 6, 5, 5];
+
 /// Puts and clears in tables 1 and 6 that stop in their key, in their amount or
 /// by their tests.
-pub(super) const COMMANDS: [Fault; 9] = [
+pub(super) const COMMANDS: [Fault; 12] = [
     fault(22, |b| {
         let [large, line] = [too_large(b), constant(b, 0)];
         b.put(1, large, line, line)
@@ -106,6 +120,18 @@ pub(super) const COMMANDS: [Fault; 9] = [
     fault(22, |b| {
         let large = too_large(b);
         put(b, 1, [0, 0], large)
+    }),
+    fault(31, |b| {
+        let [none, line] = [query(b, kind::LARGEST, 1, NONE), constant(b, 0)];
+        b.put(1, none, line, line)
+    }),
+    fault(31, |b| {
+        let [none, owner] = [query(b, kind::SMALLEST, 1, NONE), constant(b, 0)];
+        b.clear(1, owner, none)
+    }),
+    fault(31, |b| {
+        let none = query(b, kind::SMALLEST, 1, NONE);
+        put(b, 1, [0, 0], none)
     }),
     fault(23, |b| set(b, 1, [8, 7], 1)),
     fault(23, |b| clear(b, 1, [0, -1])),
@@ -123,7 +149,7 @@ pub(super) const COMMANDS: [Fault; 9] = [
 
 /// One fault for each number.
 pub(super) fn numbers() -> &'static [Fault] {
-    &FAULTS[..5]
+    &FAULTS[..6]
 }
 
 /// The command in the context of the secret.
