@@ -29,7 +29,8 @@ const PAIRS_STOPPED_FOR_LABELS: usize = 50_000;
 const PAIRS_THAT_TOOK_BACK: usize = 50_000;
 
 /// Pairs for each test function of which at least one asks for the smallest or
-/// largest of nothing: 200,000 in all four again. Of one in five only one does.
+/// largest of nothing: 200,000 in all four again. In one in five of these, at least, only
+/// one does.
 const PAIRS_OF_NOTHING: usize = 50_000;
 const PAIRS_OF_NOTHING_ONCE: usize = 10_000;
 

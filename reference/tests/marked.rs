@@ -123,8 +123,8 @@ fn first_3_last_2_sums_nothing() {
     assert_trace(&memory, &[1, 1, 0, 0, 0, 0, 0, 0]);
 }
 
-/// The same range has no smallest and no largest: the query is node 4, and all
-/// but the trace record is paid as for the sum.
+/// The same range has no smallest and no largest: the query is node 4, the cost
+/// is that of the sum, and nothing is told.
 #[test]
 fn first_3_last_2_has_no_smallest_or_largest() {
     for query in [kind::SMALLEST, kind::LARGEST] {

@@ -8,6 +8,7 @@ pub mod Kept
 pub mod Fuel
 pub mod NoLabels
 pub mod Undone
+pub mod Extremes
 pub mod Sized
 pub mod Traces
 pub mod Reach

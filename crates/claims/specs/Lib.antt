@@ -1,5 +1,6 @@
 pub mod Reasons
 pub mod Undone
+pub mod Extremes
 pub mod TwoBooks
 pub mod Claims
 pub mod Witnesses

@@ -18,6 +18,6 @@ pub data SameButCells {A : Type 0} : Out A → Out A → Type 0 where
   both-done : {t : List Rec} {a : A} {s : State} → SameButCells (done t a s) (done t a s)
   both-stop : {t : List Rec} {h : Halt} {s : State} (cells : ℕ → Lab Cell) → SameButCells (stop t h (with-cells cells s)) (stop t h s)
 
--- Every run of a book ends as it ended before Change 2, but for the cells of a stop.
+-- Every run of a book ends as the run in which nothing is taken back, but for the cells of a stop.
 abbrev pub OnlyCellsBack : Type 0
 OnlyCellsBack = (labels : Bool) (b : Book) (budget room : ℕ) → SameButCells (run-book labels b budget room) (standing-run labels b budget room)

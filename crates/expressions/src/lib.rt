@@ -141,7 +141,8 @@ fn part(
     leaf(code, n, vars, tags, run, label)
 }
 
-// 8 to 11: four bounds, and the cells of a table in their box; 31 where they give no amount. The loop calls `part` from one place: from four, it would not be in line.
+// 8 to 11: four bounds, and the cells of a table in their box; 31 where these give no amount.
+// The loop calls `part` from one place: from four, it would not be in line.
 fn query(
     code: &Script,
     n: usize,

@@ -356,7 +356,7 @@ failures =
     ∷ put-fires (trigger 0 1 0 16 ∷ []) (shows 23 11 17 0 [])
     -- by 24: user 3 may not write table 1
     ∷ put-fires (trigger 0 1 3 6 ∷ []) (shows 24 6 8 0 [])
-    -- by 31: 21 is the smallest of owner 2's line 0, which is absent; 22 puts it at (1,1,0), after 6 has in 23
+    -- by 31: in 23 first 6 writes (1,1,0), and then 22 would put 21 there, the smallest of owner 2's line 0, which is absent: 4, 23, 4, and 22 with 10
     ∷ leaves (run-list (failing (smallest 0 2 2 0 0 ∷ put 1 1 0 21 ∷ both 6 22 ∷ []) (program 0 4 ∷ []) (trigger 0 1 0 23 ∷ [])) (shows 31 21 20 0 [])) untouched
     -- by 21 on the body's root, and on a node below, after (1,1,0) is written
     ∷ leaves (record { of = failing [] (program 0 4 ∷ []) (trigger 0 1 0 6 ∷ []); budget = 4; trace = 4096; shows = shows 21 6 4 0 [] }) untouched

@@ -48,6 +48,10 @@ largest-or-one z n = λ s. done [] (labelled (cond (eqb n 5) z (pos 1)) 1) s
 abbrev pub full : State
 full = with-cells (λ q. labelled (held (pos 2147483647)) 1) sample
 
+-- no cell is present; cell q has its own place for its label
+abbrev pub none-present : State
+none-present = with-cells (λ q. labelled absent (2 ^ q)) sample
+
 -- smallest and largest stand in the middle
 abbrev pub some-cells : List Cell
 some-cells = held (pos 3) ∷ absent ∷ held (pos 9) ∷ held (negsuc 4) ∷ held (pos 4) ∷ []
@@ -170,19 +174,19 @@ pub record RuleClauses : Type 0 where
   pub queries-best : map (λ kind. ending (Rules.expr giving 9 (syntax.query kind 1 1 2 3 5) sample)) (10 ∷ 11 ∷ [])
       ≡ map (λ z. went (said 1 (pos 100) ∷ said 2 (pos 99) ∷ said 3 (pos 98) ∷ said 5 (pos 97) ∷ [])
       (record { val = z; lab = eight (46 + 2 ^ 75 + 2 ^ 76 + 2 ^ 77 + 2 ^ 83 + 2 ^ 84 + 2 ^ 85) })) (pos 75 ∷ pos 85 ∷ [])
-  -- 31 for these two, after the four bounds: of owners 2 to 1, of owners from 8 on, and of an absent cell; the cost of the bounds stays
+  -- 31 for these two, after the four bounds: of owners 2 to 1, of owners 8 to 9, and of absent cells; the cost of the bounds stays
   pub queries-of-nothing : map (λ kind. ending (Rules.expr giving 9 (syntax.query kind 1 2 1 3 5) sample)) (10 ∷ 11 ∷ [])
       ≡ replicate 2 (halted (said 2 (pos 100) ∷ said 1 (pos 99) ∷ said 3 (pos 98) ∷ said 5 (pos 97) ∷ []) 31 9 (eight 0) (eight 0))
   pub queries-outside : map (λ kind. ending (Rules.expr giving 9 (syntax.query kind 1 8 9 3 5) sample)) (10 ∷ 11 ∷ [])
       ≡ replicate 2 (halted (said 8 (pos 100) ∷ said 9 (pos 99) ∷ said 3 (pos 98) ∷ said 5 (pos 97) ∷ []) 31 9 (eight 0) (eight 0))
-  pub queries-of-absent : map (λ kind. ending (Rules.expr giving 9 (syntax.query kind 0 0 0 6 6) sample)) (10 ∷ 11 ∷ [])
-      ≡ replicate 2 (halted (said 0 (pos 100) ∷ said 0 (pos 99) ∷ said 6 (pos 98) ∷ said 6 (pos 97) ∷ []) 31 9 (eight 0) (eight 0))
+  pub queries-of-absent : map (λ kind. ending (Rules.expr giving 9 (syntax.query kind 0 0 0 3 5) none-present)) (10 ∷ 11 ∷ [])
+      ≡ replicate 2 (halted (said 0 (pos 100) ∷ said 0 (pos 99) ∷ said 3 (pos 98) ∷ said 5 (pos 97) ∷ []) 31 9 (eight 0) (eight 0))
   pub queries-of-nothing-left : map (λ kind. counts (final (Rules.expr giving 9 (syntax.query kind 1 2 1 3 5) sample))) (10 ∷ 11 ∷ []) ≡ replicate 2 (96 ∷ 5 ∷ [])
-  -- count and sum are 0 there, with the labels of the bounds, and of the absent cell
+  -- count and sum are 0 there, with the labels of the bounds, and of absent cells 3, 4 and 5
   pub queries-none : map (λ kind. ending (Rules.expr giving 9 (syntax.query kind 1 2 1 3 5) sample)) (8 ∷ 9 ∷ [])
       ≡ replicate 2 (went (said 2 (pos 100) ∷ said 1 (pos 99) ∷ said 3 (pos 98) ∷ said 5 (pos 97) ∷ []) (record { val = pos 0; lab = eight 46 }))
-  pub queries-none-present : map (λ kind. ending (Rules.expr giving 9 (syntax.query kind 0 0 0 6 6) sample)) (8 ∷ 9 ∷ [])
-      ≡ replicate 2 (went (said 0 (pos 100) ∷ said 0 (pos 99) ∷ said 6 (pos 98) ∷ said 6 (pos 97) ∷ []) (record { val = pos 0; lab = eight 65 }))
+  pub queries-none-present : map (λ kind. ending (Rules.expr giving 9 (syntax.query kind 0 0 0 3 5) none-present)) (8 ∷ 9 ∷ [])
+      ≡ replicate 2 (went (said 0 (pos 100) ∷ said 0 (pos 99) ∷ said 3 (pos 98) ∷ said 5 (pos 97) ∷ []) (record { val = pos 0; lab = eight 57 }))
   -- 22 for each: 2147483647 + 1, -2147483648 - 1, and a sum of six cells
   pub sums-in-range : ending (Rules.expr (largest-or-one (pos 2147483647)) 9 (syntax.add 5 3) sample) ≡ halted [] 22 9 (eight 0) (eight 0)
   pub differences-in-range : ending (Rules.expr (largest-or-one (negsuc 2147483647)) 9 (syntax.minus 5 3) sample) ≡ halted [] 22 9 (eight 0) (eight 0)

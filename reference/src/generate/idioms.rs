@@ -244,8 +244,8 @@ impl Script<'_> {
         Some(self.push(kind::PUT, table, [owner, line, amount, 0]))
     }
 
-    /// In a trigger: writes, and then a stop, mostly for some amounts of a cell
-    /// only.
+    /// In a trigger: writes, and then what may stop: for some amounts of a cell,
+    /// where a cell is absent, or always.
     pub(super) fn failing_body(&mut self, length: usize) -> u16 {
         let writes = self.react().unwrap_or_else(|| self.skip());
         let more = self.block(length, 0);

@@ -50,7 +50,7 @@ fn one_present_cell_is_the_smallest_and_the_largest() {
     }
 }
 
-/// Table 1 has no cell but (1,7,7), and table 2 the cell that is asked for in 1.
+/// Table 1 has no cell but (1,7,7); table 2 has cells in each of the ranges.
 #[test]
 fn cells_outside_the_range_and_in_other_tables_do_not_count() {
     for extreme in EXTREMES {
@@ -58,6 +58,7 @@ fn cells_outside_the_range_and_in_other_tables_do_not_count() {
             let mut b = three_cells();
             b.cell(1, 7, 7, 5);
             b.cell(2, 6, 6, 6);
+            b.cell(2, 6, 7, 6);
             b.cell(2, 7, 6, 6);
             let value = query(&mut b, extreme, 1, bounds);
             let assign = b.assign(0, value);
@@ -372,8 +373,8 @@ fn a_later_stop_of_the_program_takes_nothing_back() {
     assert_eq!(cell(&memory, 0, 0, C).0, None);
 }
 
-/// Lines 1 and 3 of owner 0; only B at line 1 is present. The label has the
-/// absent cells too, whichever way the run goes on.
+/// Lines 1 to 3 of owner 0, of which only B at line 1 is present. The label has
+/// the absent cells too.
 #[test]
 fn what_goes_on_has_the_labels_of_absent_cells() {
     for extreme in EXTREMES {
