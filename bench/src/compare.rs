@@ -44,8 +44,20 @@ pub fn check_workload(workload: &Workload) {
         agree(*call, file, &loaded).unwrap_or_else(|difference| panic!("{name}: {difference}"));
     assert_eq!(answer, workload.answer, "{name}");
     if let Call::Write = call {
-        assert_eq!(memory.out[..file.len()], file[..], "{name}");
+        let written = written_by_reference(file, &loaded);
+        assert!(memory.out.starts_with(&written), "{name}");
     }
+}
+
+/// What the reference makes of these cells and labels.
+fn written_by_reference(file: &[u8], memory: &Memory) -> Vec<u8> {
+    let left = reference::run::Memory {
+        amounts: memory.amounts.clone(),
+        presence: memory.presence.clone(),
+        labels: memory.labels.clone(),
+        trace: Vec::new(),
+    };
+    reference::writer::written(file, &left).expect("the book is accepted")
 }
 
 /// Puts random books, of which one in four is damaged, to all sides: load, run
@@ -58,7 +70,7 @@ pub fn random_books(cases: u64) -> Result<[u64; 3], String> {
             .map_err(|difference| format!("seed {seed}: {difference}"))?;
         match number {
             0 => ends[2] += 1,
-            1..=10 => ends[0] += 1,
+            1..=10 | 32 => ends[0] += 1,
             _ => ends[1] += 1,
         }
     }
@@ -67,7 +79,10 @@ pub fn random_books(cases: u64) -> Result<[u64; 3], String> {
 
 /// Gives the number that the run answers.
 fn random_book(random: &mut Random) -> Result<u32, String> {
-    let book = generate::often_failing(random);
+    let book = match random.chance(40) {
+        true => generate::often_failing(random),
+        false => generate::of_either_version(random),
+    };
     let file = if random.chance(25) {
         generate::damaged(random, &book)
     } else {

@@ -20,7 +20,7 @@ and then times the workloads.
   --compare   only compares the sides on random books
   --workload  only calls one side on one workload, for a profiler
   NAME        arithmetic, queries, postings, cascades, cascades-double, smallest,
-              reading or writing
+              smallest-2, reading, reading-2, writing or writing-2
   SIDE        proved, handwritten, or plain for hand-written with no labels";
 
 const CASES: u64 = 5_000;
@@ -77,7 +77,7 @@ fn compare_random(cases: u64) {
     );
 }
 
-/// Prints the table. A writer knows no labels, so its last columns are empty.
+/// Prints the table. No writer does without labels, so its last columns are empty.
 fn measure() {
     println!("| workload | proved µs | hand-written µs | proved / hand-written | hand-written without labels µs | proved / without labels |");
     println!("|---|---|---|---|---|---|");

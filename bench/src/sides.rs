@@ -87,7 +87,7 @@ impl Side {
         [answered.number, answered.at, answered.length, 0]
     }
 
-    /// A writer knows no labels, so the hand-written one serves both sides.
+    /// A writer writes labels always, so the hand-written one serves both sides.
     fn write(self, file: &[u8], memory: &mut Memory) -> Answer {
         let write = match self {
             Side::Proved => proved::write,
@@ -96,10 +96,11 @@ impl Side {
         let Memory {
             amounts,
             presence,
+            labels,
             out,
             ..
         } = memory;
-        let answered = write(file, amounts, presence, out);
+        let answered = write(file, amounts, presence, labels, out);
         [answered.number, answered.at, answered.length, 0]
     }
 }

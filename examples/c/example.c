@@ -1,4 +1,5 @@
-/* Runs a trust book, explains it, loads it and writes it, and prints what each call answers and leaves in lent memory.
+/* Runs a trust book, explains it, writes what its run left for the next day, loads it and writes it, and prints what each call
+ * answers and leaves in lent memory.
  *
  * To compile and run it, in the folder of the repository:
  *
@@ -6,7 +7,8 @@
  *     cc -std=c11 -I crates/capi/include -o example examples/c/example.c target/staticlib/libcapi.a
  *     ./example examples/w.book
  *
- * w.out, posting.out, correction.out and leak.out have what it prints for these books, worked out by hand. It is C++ too. */
+ * w.out, posting.out, correction.out, leak.out, monday.out and tuesday.out have what it has to print for these books, which the
+ * proved code had no part in. It is C++ too. */
 #include "kagyurma.h"
 
 #include <inttypes.h>
@@ -33,9 +35,10 @@ static struct cells cells;
 static uint8_t trace[4096];
 static uint8_t out[60000];
 
-/* What the run left, to compare with it what explaining leaves. */
+/* What the run left, to compare with it what explaining leaves, and to write it for the next day. */
 static struct cells cells_of_run;
 static uint8_t trace_of_run[sizeof trace];
+static uint8_t next_day[sizeof out];
 
 /* A book has at most 60,000 bytes. There is room for one more, so that a longer file is refused and not cut. */
 static uint8_t file[60001];
@@ -133,7 +136,7 @@ static void print_rest(const char *name, const uint8_t *buffer, size_t size, siz
 /* A refused call leaves lent memory as it was, so that there is nothing to print. */
 static bool is_refusal(uint32_t number)
 {
-    return 1 <= number && number <= 10;
+    return (1 <= number && number <= 10) || number == 32;
 }
 
 static void print_answer(const char *call, struct kagyurma_answered answer)
@@ -147,7 +150,8 @@ static void fill_cells_and_trace(void)
     memset(trace, UNTOUCHED, sizeof trace);
 }
 
-static void run_book(const uint8_t *book, size_t length)
+/* Gives whether the book was accepted. */
+static bool run_book(const uint8_t *book, size_t length)
 {
     fill_cells_and_trace();
     const struct kagyurma_ran ran = kagyurma_run(book, length, BUDGET,
@@ -158,13 +162,14 @@ static void run_book(const uint8_t *book, size_t length)
     printf("run: number %" PRIu32 ", at %" PRIu32 ", cost %" PRIu32 ", bytes %" PRIu32 "\n", ran.number, ran.at, ran.cost,
            ran.bytes);
     if (is_refusal(ran.number)) {
-        return;
+        return false;
     }
     for (size_t at = 0; at + RECORD <= ran.bytes; at += RECORD) {
         print_record(&trace[at]);
     }
     print_rest("trace", trace, sizeof trace, ran.bytes);
     print_cells();
+    return true;
 }
 
 /* Prints which cells stood in the way of the run: places of a set that had to lie within another, which lacks them. */
@@ -212,13 +217,14 @@ static bool load_book(const uint8_t *book, size_t length)
     return true;
 }
 
-/* Writes the book to `out`, with these cells for its own. Gives the length of the new book. */
+/* Writes the book to `out`, with these cells and labels for its own. Gives the length of the new book. */
 static size_t write_book(const uint8_t *book, size_t length, const struct cells *held)
 {
     memset(out, UNTOUCHED, sizeof out);
     const struct kagyurma_answered answer = kagyurma_write(book, length,
                                                            held->amounts, COUNT(held->amounts),
                                                            held->presence, COUNT(held->presence),
+                                                           held->labels, COUNT(held->labels),
                                                            out, sizeof out);
     print_answer("write", answer);
     print_rest("output", out, sizeof out, answer.length);
@@ -227,14 +233,37 @@ static size_t write_book(const uint8_t *book, size_t length, const struct cells 
 
 /* ---- a book read, changed and written */
 
+/* A book of version 2 is written back byte for byte. One of version 1 crosses over: its records stay as they are, and what
+ * follows them is 40 bytes instead of 36. */
 static void write_back(const uint8_t *book, size_t length)
 {
     const size_t written = write_book(book, length, &cells);
     const bool same = written == length && memcmp(out, book, length) == 0;
-    printf("the book written back is %s\n", same ? "the file, byte for byte" : "ANOTHER");
+    const bool crossed = written == length + 4 && book[length - 32] == 1 && out[written - 32] == 2
+        && memcmp(out, book, length - 36) == 0;
+    printf("the book written back is %s\n",
+           same ? "the file, byte for byte" : crossed ? "the file's records in version 2" : "ANOTHER");
 }
 
-/* To clear a cell is to take its bit out of presence; what its amount is then does not count. */
+/* Writes what the run left as the book of the next day, and loads that. A cell that is labelled by itself alone needs no label
+ * record; how many there are stands 38 bytes before the end. */
+static void write_next_day(const uint8_t *book, size_t length)
+{
+    printf("for the next day, with what the run left:\n");
+    const size_t written = write_book(book, length, &cells_of_run);
+    memcpy(next_day, out, sizeof out);
+    printf("label records: %d\n", next_day[written - 38] + 256 * next_day[written - 37]);
+    memset(&cells, UNTOUCHED, sizeof cells);
+    const struct kagyurma_answered answer = kagyurma_load(next_day, written,
+                                                          cells.amounts, COUNT(cells.amounts),
+                                                          cells.presence, COUNT(cells.presence),
+                                                          cells.labels, COUNT(cells.labels));
+    print_answer("load", answer);
+    const bool same = memcmp(&cells, &cells_of_run, sizeof cells) == 0;
+    printf("cells and labels are %s\n", same ? "as the run left them, byte for byte" : "OTHERS than the run left");
+}
+
+/* To clear a cell is to take its bit out of presence; what its amount is then does not count, but its label does. */
 static void write_changed(const uint8_t *book, size_t length)
 {
     const unsigned changed = place_of(0, 1, 0);
@@ -242,7 +271,8 @@ static void write_changed(const uint8_t *book, size_t length)
     cells.amounts[changed] = -5;
     cells.presence[changed / 64] |= UINT64_C(1) << (changed % 64);
     cells.presence[cleared / 64] &= ~(UINT64_C(1) << (cleared % 64));
-    printf("with (0,1,0) holding -5, and (0,2,0) cleared:\n");
+    memcpy(&cells.labels[8 * changed], label_of(cleared), 8 * sizeof cells.labels[0]);
+    printf("with (0,1,0) holding -5 and labelled as (0,2,0) is, and (0,2,0) cleared:\n");
     const size_t written = write_book(book, length, &cells);
     for (size_t at = 0; at < written; at++) {
         printf("%02x%s", out[at], at % 16 == 15 || at + 1 == written ? "\n" : " ");
@@ -273,8 +303,11 @@ int main(int argc, char **argv)
         fprintf(stderr, "example: not a file that can be read: %s\n", argv[1]);
         return 2;
     }
-    run_book(file, length);
+    const bool accepted = run_book(file, length);
     explain_book(file, length);
+    if (accepted) {
+        write_next_day(file, length);
+    }
     if (load_book(file, length)) {
         write_back(file, length);
         write_changed(file, length);

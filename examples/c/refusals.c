@@ -1,7 +1,7 @@
 /* Every refusal of the four calls, and that a refused call leaves lent memory as it was.
  *
  * Prints a line for each case: what is wrong, and for each call its answer, field by field, and whether it touched lent memory.
- * refusals.out has these lines, worked out by hand. example.c, beside this, shows what the calls are for. */
+ * refusals.out has these lines, which the proved code had no part in. example.c, beside this, shows what the calls are for. */
 #include "kagyurma.h"
 
 #include <inttypes.h>
@@ -43,6 +43,25 @@ static const uint8_t BOOK[260] = {
     4, 1, 0, 0,
 };
 
+/* The records of this book, then those of labels, and all that follows in version 2. Cell (0,1,0) has the label of (0,2,0), so
+ * that its run stops at the first out; (0,2,1), which is absent, has an empty label. */
+enum { RECORDS = 224 };
+static const uint8_t TAIL_2[172] = {
+    /* 224: labels: place; eight words */
+    8, 0,
+    0, 0, 1, 0, 0, 0, 0, 0, 0, 0, 0, 0, 0, 0, 0, 0, 0, 0, 0, 0, 0, 0, 0, 0, 0, 0, 0, 0, 0, 0, 0, 0,
+    0, 0, 0, 0, 0, 0, 0, 0, 0, 0, 0, 0, 0, 0, 0, 0, 0, 0, 0, 0, 0, 0, 0, 0, 0, 0, 0, 0, 0, 0, 0, 0,
+    17, 0,
+    0, 0, 0, 0, 0, 0, 0, 0, 0, 0, 0, 0, 0, 0, 0, 0, 0, 0, 0, 0, 0, 0, 0, 0, 0, 0, 0, 0, 0, 0, 0, 0,
+    0, 0, 0, 0, 0, 0, 0, 0, 0, 0, 0, 0, 0, 0, 0, 0, 0, 0, 0, 0, 0, 0, 0, 0, 0, 0, 0, 0, 0, 0, 0, 0,
+    /* 356: distance and count of the labels */
+    172, 0, 2, 0,
+    /* 360: mark, version, three zeros; distance and count of each other section; length */
+    'B', 'K', 'W', 'S', 2, 0, 0, 0,
+    140, 1, 2, 0, 124, 1, 2, 0, 108, 1, 2, 0, 100, 1, 10, 0, 196, 0, 2, 0, 188, 0, 2, 0,
+    140, 1, 0, 0,
+};
+
 enum { LONGEST = 60000, JUNK = 0xA5 };
 
 /* Memory to lend, with one element more than each call may be told of, and a copy of it as it was before a call. */
@@ -82,15 +101,19 @@ static const struct {
     {"60001 output bytes", {512, 8, 4096, 65536, LONGEST + 1, 1000000}},
 };
 
-/* The book with one other byte. */
-static const struct {
+/* One other byte in a book. */
+struct fault {
     const char *what;
     size_t at;
     uint8_t byte;
-} FAULTS[] = {
+};
+
+/* In the book of version 1. */
+static const struct fault FAULTS[] = {
     {"length field 261", 256, 5},
     {"mark BKWT", 227, 'T'},
-    {"version 2", 228, 2},
+    {"version 2 without its pair", 228, 2},
+    {"version 3", 228, 3},
     {"last zero of the trailer 1", 231, 1},
     {"distance of the rights 229", 240, 229},
     {"3 programs counted", 250, 3},
@@ -103,13 +126,26 @@ static const struct {
     {"trigger 1 with an out for body", 220, 6},
 };
 
+/* In the book of version 2. */
+static const struct fault FAULTS_2[] = {
+    {"version 1 with a seventh pair", 364, 1},
+    {"version 0", 364, 0},
+    {"distance of the labels 171", 356, 171},
+    {"3 labels counted", 358, 3},
+    {"label 0 at place 520", 225, 2},
+    {"label 1 at the place of label 0", 290, 8},
+    {"label 1 at a place below", 290, 7},
+    {"label 1 its own place alone", 294, 2},
+};
+
 /* Whether lent memory is as it was before the call. */
 static const char *left(void)
 {
     return memcmp(&lent, &before, sizeof lent) == 0 ? "untouched" : "touched";
 }
 
-/* Of the 512 bits of such presence words 256 are set, so that a book that is written gets 256 cells. */
+/* Of the 512 bits of such presence words 256 are set, so that a book that is written gets 256 cells. No label is the own place
+ * alone, so that it gets 512 label records. */
 static void fill(void)
 {
     memset(&lent, JUNK, sizeof lent);
@@ -141,8 +177,8 @@ static void call(const char *what, const uint8_t *file, size_t length, struct si
     print_answer("load", kagyurma_load(file, length, lent.amounts, sizes.amounts, lent.presence, sizes.presence, lent.labels,
                                        sizes.labels));
     fill();
-    print_answer("write", kagyurma_write(file, length, lent.amounts, sizes.amounts, lent.presence, sizes.presence, lent.out,
-                                         sizes.out));
+    print_answer("write", kagyurma_write(file, length, lent.amounts, sizes.amounts, lent.presence, sizes.presence, lent.labels,
+                                         sizes.labels, lent.out, sizes.out));
     printf("\n");
 }
 
@@ -156,6 +192,33 @@ static void call_zeros(const char *what, size_t length)
     call(what, file, length, MOST);
 }
 
+/* Puts a file of this length to the calls that has a trailer of version 2 and no records. It has room for the seventh pair from 40
+ * bytes on. */
+static void call_short(const char *what, size_t length)
+{
+    uint8_t file[41] = {0};
+    uint8_t *const trailer = &file[length - 36];
+    if (length >= 40) {
+        file[length - 40] = 40;
+    }
+    memcpy(trailer, "BKWS\2", 5);
+    for (size_t section = 0; section < 6; section++) {
+        trailer[8 + 4 * section] = (uint8_t)length;
+    }
+    trailer[32] = (uint8_t)length;
+    call(what, file, length, MOST);
+}
+
+static void call_faults(const uint8_t *book, size_t length, const struct fault *faults, size_t count)
+{
+    uint8_t file[RECORDS + sizeof TAIL_2];
+    for (size_t i = 0; i < count; i++) {
+        memcpy(file, book, length);
+        file[faults[i].at] = faults[i].byte;
+        call(faults[i].what, file, length, MOST);
+    }
+}
+
 int main(void)
 {
     call("nothing", BOOK, sizeof BOOK, MOST);
@@ -167,11 +230,16 @@ int main(void)
     call_zeros("36 bytes, no mark", 36);
     call_zeros("60000 bytes, no mark", LONGEST);
     call_zeros("60001 bytes", LONGEST + 1);
-    for (size_t i = 0; i < sizeof FAULTS / sizeof FAULTS[0]; i++) {
-        uint8_t file[sizeof BOOK];
-        memcpy(file, BOOK, sizeof file);
-        file[FAULTS[i].at] = FAULTS[i].byte;
-        call(FAULTS[i].what, file, sizeof file, MOST);
-    }
+    call_faults(BOOK, sizeof BOOK, FAULTS, sizeof FAULTS / sizeof FAULTS[0]);
+
+    uint8_t book_2[RECORDS + sizeof TAIL_2];
+    memcpy(book_2, BOOK, RECORDS);
+    memcpy(&book_2[RECORDS], TAIL_2, sizeof TAIL_2);
+    call("nothing, in version 2", book_2, sizeof book_2, MOST);
+    call_short("36 bytes, version 2", 36);
+    call_short("39 bytes, version 2", 39);
+    call_short("40 bytes, version 2", 40);
+    call_short("41 bytes, version 2", 41);
+    call_faults(book_2, sizeof book_2, FAULTS_2, sizeof FAULTS_2 / sizeof FAULTS_2[0]);
     return 0;
 }

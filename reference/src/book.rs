@@ -1,5 +1,7 @@
 //! A book as records, and the bytes of its file.
 
+use crate::places::Places;
+
 /// A present cell and its amount.
 #[derive(Clone, Copy, Debug, PartialEq, Eq)]
 pub struct Cell {
@@ -55,6 +57,14 @@ pub struct Trigger {
     pub body: u16,
 }
 
+/// The label that a cell, present or absent, has at the start. Cells without
+/// such a record are labelled by their own place alone.
+#[derive(Clone, Copy, Debug, PartialEq, Eq)]
+pub struct LabelRecord {
+    pub place: u16,
+    pub label: Places,
+}
+
 /// The records of a book file, section by section.
 #[derive(Clone, Debug, Default, PartialEq, Eq)]
 pub struct Book {
@@ -64,6 +74,8 @@ pub struct Book {
     pub nodes: Vec<Node>,
     pub programs: Vec<Program>,
     pub triggers: Vec<Trigger>,
+    /// None in a book of version 1, which has no such section.
+    pub labels: Option<Vec<LabelRecord>>,
 }
 
 /// Why a file is not run: the refusal's number and the first bad record's index.
@@ -108,7 +120,10 @@ pub mod kind {
 }
 
 /// How the trailer opens: the mark, the version and three zero bytes.
-pub(crate) const OPENING: [u8; 8] = *b"BKWS\x01\0\0\0";
+pub(crate) fn opening(version: u8) -> [u8; 8] {
+    let [b, k, w, s] = *b"BKWS";
+    [b, k, w, s, version, 0, 0, 0]
+}
 
 impl Book {
     /// The file of these records. Bad records and too many of them are written
@@ -122,22 +137,46 @@ impl Book {
             join(&self.nodes, node_bytes),
             join(&self.programs, program_bytes),
             join(&self.triggers, trigger_bytes),
+            join(self.labels.as_deref().unwrap_or_default(), label_bytes),
         ];
         let mut file = sections.concat();
-        let length = file.len() + 36;
-        file.extend(OPENING);
+        let length = file.len() + self.tail();
+        let mut pairs = Vec::with_capacity(28);
         let mut distance = length;
         for (section, count) in sections.iter().zip(self.counts()) {
-            file.extend((distance as u16).to_le_bytes());
-            file.extend((count as u16).to_le_bytes());
+            pairs.extend((distance as u16).to_le_bytes());
+            pairs.extend((count as u16).to_le_bytes());
             distance -= section.len();
         }
+        let (six, seventh) = pairs.split_at(24);
+        if self.labels.is_some() {
+            file.extend(seventh);
+        }
+        file.extend(opening(self.version()));
+        file.extend(six);
         file.extend((length as u32).to_le_bytes());
         file
     }
 
+    /// The version of its file.
+    pub fn version(&self) -> u8 {
+        match self.labels {
+            None => 1,
+            Some(_) => 2,
+        }
+    }
+
+    /// The bytes of its file that follow the records: the trailer, and in version
+    /// 2 the seventh pair before it.
+    fn tail(&self) -> usize {
+        match self.labels {
+            None => 36,
+            Some(_) => 40,
+        }
+    }
+
     /// How many records each section has.
-    pub fn counts(&self) -> [usize; 6] {
+    pub fn counts(&self) -> [usize; 7] {
         [
             self.cells.len(),
             self.regions.len(),
@@ -145,6 +184,7 @@ impl Book {
             self.nodes.len(),
             self.programs.len(),
             self.triggers.len(),
+            self.labels.as_ref().map_or(0, Vec::len),
         ]
     }
 
@@ -162,6 +202,29 @@ impl Book {
                 });
             }
         }
+    }
+
+    /// The label of each of the 512 cells at the start.
+    pub fn start_labels(&self) -> Vec<Places> {
+        let mut labels: Vec<Places> = (0..512).map(Places::single).collect();
+        for record in self.labels.iter().flatten() {
+            labels[usize::from(record.place)] = record.label;
+        }
+        labels
+    }
+
+    /// Makes these the labels at the start, eight words for each of the 512 cells,
+    /// whether it is present or not. The book is then one of version 2.
+    pub fn replace_labels(&mut self, labels: &[u64]) {
+        let mut records = Vec::new();
+        for (place, words) in labels.chunks_exact(8).enumerate() {
+            let label = Places::from_words(words);
+            if label != Places::single(place) {
+                let place = place as u16;
+                records.push(LabelRecord { place, label });
+            }
+        }
+        self.labels = Some(records);
     }
 }
 
@@ -217,4 +280,13 @@ fn trigger_bytes(trigger: &Trigger) -> [u8; 8] {
         ..
     } = *trigger;
     [region, event, user, 0, low, high, 0, 0]
+}
+
+fn label_bytes(record: &LabelRecord) -> [u8; 66] {
+    let mut bytes = [0; 66];
+    bytes[..2].copy_from_slice(&record.place.to_le_bytes());
+    for (eight, word) in bytes[2..].chunks_exact_mut(8).zip(record.label.0) {
+        eight.copy_from_slice(&word.to_le_bytes());
+    }
+    bytes
 }

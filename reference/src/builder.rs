@@ -1,6 +1,7 @@
 //! A book put together record by record, for tests and examples.
 
-use crate::book::{kind, Book, Cell, Node, Program, Region, Right, Trigger};
+use crate::book::{kind, Book, Cell, LabelRecord, Node, Program, Region, Right, Trigger};
+use crate::places::{place, Places};
 use std::ops::RangeInclusive;
 
 /// A book under construction. Each method adds one record; those that add a
@@ -22,6 +23,13 @@ impl Builder {
             line,
             amount,
         });
+    }
+
+    /// The label that a cell starts with; with it the book is of version 2.
+    pub fn label(&mut self, [table, owner, line]: [u8; 3], label: Places) {
+        let place = place(table, owner, line) as u16;
+        let records = self.book.labels.get_or_insert_default();
+        records.push(LabelRecord { place, label });
     }
 
     pub fn region(

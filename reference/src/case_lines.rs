@@ -6,6 +6,10 @@
 pub(crate) enum Task {
     Run = 0,
     LoadAndWrite = 1,
+    /// The same with other labels for the writer.
+    WriteLabels = 2,
+    /// The same with a few other labels for the writer.
+    WriteFewLabels = 3,
 }
 
 /// A case as it stands in a stream. What its task has no use for is 0.
@@ -69,6 +73,26 @@ impl Draws {
             (high << 33) + self.next() * 2
         };
         (0..count).map(|_| word()).collect()
+    }
+
+    /// Changes about half of these labels, eight words for each place: some
+    /// become empty, some the own place alone, and some gain a place.
+    pub(crate) fn few_labels(&mut self, words: &mut [u64]) {
+        for (place, label) in words.chunks_exact_mut(8).enumerate() {
+            match self.next() / 65_536 % 8 {
+                0..=3 => {}
+                4..=5 => label.fill(0),
+                6 if place < 512 => {
+                    label.fill(0);
+                    label[place / 64] = 1 << (place % 64);
+                }
+                6 => {}
+                _ => {
+                    let more = (self.next() / 65_536 % 512) as usize;
+                    label[more / 64] |= 1 << (more % 64);
+                }
+            }
+        }
     }
 
     /// Bytes of one number each, from its middle.

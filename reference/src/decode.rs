@@ -1,19 +1,32 @@
 //! Reading a book file: every check that can refuse it, in the fixed order.
 
-use crate::book::{kind, Book, Cell, Node, Program, Refusal, Region, Right, Trigger, OPENING};
-use crate::places::place;
+use crate::book::{
+    kind, opening, Book, Cell, LabelRecord, Node, Program, Refusal, Region, Right, Trigger,
+};
+use crate::places::{place, Places};
 
 pub(crate) const TRAILER: usize = 36;
-const LONGEST: usize = 60_000;
+/// The bytes of a distance and a count.
+pub(crate) const PAIR: usize = 4;
+pub(crate) const LONGEST: usize = 60_000;
 
-/// For each section, the most records it may have and the bytes of each.
-pub(crate) const SECTIONS: [(usize, usize); 6] =
-    [(512, 8), (64, 8), (64, 4), (1_024, 16), (8, 4), (8, 8)];
+/// For each section, the most records it may have and the bytes of each. Only
+/// files of version 2 have the last.
+pub(crate) const SECTIONS: [(usize, usize); 7] = [
+    (512, 8),
+    (64, 8),
+    (64, 4),
+    (1_024, 16),
+    (8, 4),
+    (8, 8),
+    (512, 66),
+];
 
 impl Book {
-    /// The records of a file, or refusal 2–10 with the first bad record's index.
+    /// The records of a file, or refusal 2–10 or 32 with the first bad record's
+    /// index.
     pub fn decode(file: &[u8]) -> Result<Book, Refusal> {
-        let sections = split(file)?;
+        let (version, sections) = split(file)?;
         let mut last_place = None;
         let cells = read(5, sections[0], 8, |raw| cell(raw, &mut last_place))?;
         let regions = read(6, sections[1], 8, region)?;
@@ -26,6 +39,8 @@ impl Book {
         let triggers = read(10, sections[5], 8, |raw| {
             trigger(raw, regions.len(), &traits)
         })?;
+        let mut last_labelled = None;
+        let labels = read(32, sections[6], 66, |raw| label(raw, &mut last_labelled))?;
         Ok(Book {
             cells,
             regions,
@@ -33,12 +48,14 @@ impl Book {
             nodes,
             programs,
             triggers,
+            labels: (version == 2).then_some(labels),
         })
     }
 }
 
-/// Refusals 2–4; then the bytes of each section.
-fn split(file: &[u8]) -> Result<[&[u8]; 6], Refusal> {
+/// Refusals 2–4; then the version and the bytes of each section, none for one
+/// that the version does not have.
+fn split(file: &[u8]) -> Result<(u8, [&[u8]; 7]), Refusal> {
     let refuse = |number| Err(Refusal { number, index: 0 });
     let length = file.len();
     if !(TRAILER..=LONGEST).contains(&length) {
@@ -49,25 +66,45 @@ fn split(file: &[u8]) -> Result<[&[u8]; 6], Refusal> {
     if length_field as usize != length {
         return refuse(2);
     }
-    if trailer[..8] != OPENING {
+    let version = trailer[4];
+    if !(1..=2).contains(&version) || trailer[..8] != opening(version) {
         return refuse(3);
     }
-    let mut start = 0;
-    let mut starts = [0; 7];
-    for (section, (most, size)) in SECTIONS.into_iter().enumerate() {
-        let pair = &trailer[8 + 4 * section..];
-        let distance = usize::from(word(pair, 0));
-        let count = usize::from(word(pair, 2));
-        if count > most || start + distance != length {
-            return refuse(4);
+    match section_starts(file, version) {
+        Some(starts) => {
+            let section = |i: usize| &file[starts[i]..starts[i + 1]];
+            Ok((version, std::array::from_fn(section)))
         }
-        start += count * size;
+        None => refuse(4),
+    }
+}
+
+/// Where each section starts, and where the last one ends. None unless they
+/// fill the file up to the pairs.
+fn section_starts(file: &[u8], version: u8) -> Option<[usize; 8]> {
+    let length = file.len();
+    let mut pairs: Vec<&[u8]> = file[length - TRAILER + 8..length - 4]
+        .chunks_exact(PAIR)
+        .collect();
+    let mut tail = TRAILER;
+    if version == 2 {
+        tail += PAIR;
+        pairs.push(file.get(length.checked_sub(tail)?..)?);
+    }
+    let mut starts = [0; 8];
+    let mut start = 0;
+    for (section, (most, size)) in SECTIONS.into_iter().enumerate() {
+        if let Some(pair) = pairs.get(section) {
+            let distance = usize::from(word(pair, 0));
+            let count = usize::from(word(pair, 2));
+            if count > most || start + distance != length {
+                return None;
+            }
+            start += count * size;
+        }
         starts[section + 1] = start;
     }
-    if start + TRAILER != length {
-        return refuse(4);
-    }
-    Ok(std::array::from_fn(|i| &file[starts[i]..starts[i + 1]]))
+    (start + tail == length).then_some(starts)
 }
 
 /// Reads a section record by record; the first that `record` turns down is
@@ -114,6 +151,24 @@ fn cell(raw: &[u8], last: &mut Option<usize>) -> Option<Cell> {
         line,
         amount: signed(raw, 4),
     })
+}
+
+/// `last` is the place of the record before, which this one has to exceed. A
+/// label that the cell would have anyway needs no record, so there may be none.
+fn label(raw: &[u8], last: &mut Option<u16>) -> Option<LabelRecord> {
+    let place = word(raw, 0);
+    if place > 511 || Some(place) <= *last {
+        return None;
+    }
+    *last = Some(place);
+    let mut label = Places::EMPTY;
+    for (word, bytes) in label.0.iter_mut().zip(raw[2..].chunks_exact(8)) {
+        *word = bytes
+            .iter()
+            .rev()
+            .fold(0, |w, &byte| w << 8 | u64::from(byte));
+    }
+    (label != Places::single(place.into())).then_some(LabelRecord { place, label })
 }
 
 fn region(raw: &[u8]) -> Option<Region> {

@@ -10,11 +10,12 @@ mod damage;
 mod deep;
 mod guess;
 mod idioms;
+mod labels;
 mod pool;
 mod script;
 mod world;
 
-pub use alter::altered;
+pub use alter::{altered, relabelled};
 pub use damage::damaged;
 pub(crate) use deep::nested;
 
@@ -47,17 +48,62 @@ pub fn often_failing(random: &mut Random) -> Book {
     make(random, failing)
 }
 
-fn make(random: &mut Random, failing: bool) -> Book {
-    if random.below(300) == 0 {
-        return deep::book(random);
+/// A random book of which three in five are of version 2, mostly with labels
+/// for some cells that scripts work on.
+pub fn of_either_version(random: &mut Random) -> Book {
+    let size = size(random);
+    let failing = random.chance(15);
+    let mut world = World::new(random, size, failing);
+    if random.chance(60) {
+        world.labels = Some(labels::records(random, size, &world.spots));
     }
-    let size = random.weighted(&[
+    let mut guess = Guess::new(&world);
+    scripts(random, size, &world, &mut guess)
+}
+
+/// Books for so many days, one after the other, with scripts that work on the
+/// same cells. Those of the later days have cells too, which the day before is
+/// to replace.
+pub fn days(random: &mut Random, count: usize) -> Vec<Book> {
+    let size = random.pick(&[Size::Tiny, Size::Tiny, Size::Small]);
+    let failing = random.chance(10);
+    let mut world = World::new(random, size, failing);
+    if random.chance(40) {
+        world.labels = Some(labels::records(random, size, &world.spots));
+    }
+    let mut guess = Guess::new(&world);
+    let mut days = vec![scripts(random, size, &world, &mut guess)];
+    while days.len() < count {
+        if random.chance(40) {
+            world.change_rights(random, size);
+        }
+        guess.begin_day(&world);
+        days.push(scripts(random, size, &world, &mut guess));
+    }
+    days
+}
+
+fn size(random: &mut Random) -> Size {
+    random.weighted(&[
         (45, Size::Tiny),
         (40, Size::Small),
         (14, Size::Middle),
         (1, Size::Full),
-    ]);
+    ])
+}
+
+fn make(random: &mut Random, failing: bool) -> Book {
+    if random.below(300) == 0 {
+        return deep::book(random);
+    }
+    let size = size(random);
     let world = World::new(random, size, failing);
+    let mut guess = Guess::new(&world);
+    scripts(random, size, &world, &mut guess)
+}
+
+/// A book of this world, with scripts that begin as guessed.
+fn scripts(random: &mut Random, size: Size, world: &World, guess: &mut Guess) -> Book {
     let (for_triggers, for_programs) = match size {
         Size::Tiny => (25, 50),
         Size::Small => (60, 120),
@@ -65,21 +111,21 @@ fn make(random: &mut Random, failing: bool) -> Book {
         Size::Full => (250, 400),
     };
     let mut pool = Pool::new();
-    let mut guess = Guess::new(&world);
     pool.allow(for_triggers);
-    let triggers = triggers(random, size, &world, &mut pool, &mut guess);
+    let triggers = triggers(random, size, world, &mut pool, guess);
     pool.allow(for_programs);
-    let programs = programs(random, size, &world, &mut pool, guess);
+    let programs = programs(random, size, world, &mut pool, guess);
     if size == Size::Full {
         pool.fill();
     }
     Book {
-        cells: world.cells,
-        regions: world.regions,
-        rights: world.rights,
+        cells: world.cells.clone(),
+        regions: world.regions.clone(),
+        rights: world.rights.clone(),
         nodes: pool.nodes,
         programs,
         triggers,
+        labels: world.labels.clone(),
     }
 }
 
@@ -126,7 +172,7 @@ fn programs(
     size: Size,
     world: &World,
     pool: &mut Pool,
-    mut guess: Guess,
+    guess: &mut Guess,
 ) -> Vec<Program> {
     let count = match size {
         Size::Tiny => random.weighted(&[(1, 0), (16, 1), (3, 2)]),
@@ -142,7 +188,7 @@ fn programs(
             Size::Small => random.between(2, 7),
             _ => random.between(3, 14),
         };
-        let mut script = Script::for_program(random, world, pool, &mut guess, user);
+        let mut script = Script::for_program(random, world, pool, guess, user);
         let root = script.program(length);
         programs.push(Program { user, root });
     }

@@ -8,7 +8,7 @@ use reference::format_cases;
 use reference::notation;
 use reference::run::on_deep_stack;
 use reference::run_cases;
-use reference::run_list::{explain_list, run_list};
+use reference::run_list::{explain_list, next_day, run_list};
 use std::env;
 use std::ffi::OsString;
 use std::fs;
@@ -16,10 +16,11 @@ use std::io::{self, Read, Write};
 use std::path::Path;
 use std::process::ExitCode;
 
-const USAGE: &str = "usage: reference run|explain|assemble|list [FILE]
+const USAGE: &str = "usage: reference run|explain|next|assemble|list [FILE]
        reference cases|comparisons|deepest|edges FOLDER
   run          run the book in FILE, or in standard input, and list what it does
   explain      do the same, and name the place for which a test on labels failed
+  next         run the book and write the one that it leaves for the next day
   assemble     write the book that a text describes
   list         write the text that describes a book
   cases        write cases for readers, writers and runners of books to FOLDER/stdin,
@@ -81,6 +82,7 @@ fn dispatch(arguments: &[OsString]) -> Result<(), Failure> {
     match command.to_str() {
         Some("run") => print_list(file, run_list),
         Some("explain") => print_list(file, explain_list),
+        Some("next") => next(file),
         Some("assemble") => assemble(file),
         Some("list") => list(file),
         Some("cases") => write_cases(file),
@@ -98,6 +100,12 @@ fn print_list(file: Option<&Path>, list: fn(&[u8]) -> String) -> Result<(), Fail
     let book = input(file)?;
     let text = on_deep_stack(|| list(&book));
     print(text.as_bytes())
+}
+
+fn next(file: Option<&Path>) -> Result<(), Failure> {
+    let book = input(file)?;
+    let next = on_deep_stack(|| next_day(&book)).map_err(refused)?;
+    print(&next)
 }
 
 fn assemble(file: Option<&Path>) -> Result<(), Failure> {

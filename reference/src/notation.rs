@@ -25,11 +25,20 @@
 //! node c10 = raise 3 by flat1
 //! program 0 c7                                 # user, root
 //! trigger flat1 put 0 c5                       # region, event, user, body
+//! label 0 1 0 = 0.1.0 0.2.0-7 3.0-7.0-7        # table owner line = places
+//! label 0 2 0 = nothing                        # the empty label
+//! version 2
 //! ```
 //!
 //! A name is declared above its first use. Records keep the order of the text.
+//!
+//! The label of a cell is `nothing` or a list of places, each as
+//! TABLE.OWNER.LINE. Owner and line may be ranges, FIRST-LAST, for every place
+//! in them. A text with a label, or with the line `version 2`, is a book of
+//! version 2; any other is one of version 1.
 
 mod assemble;
+mod label;
 mod list;
 
 pub use assemble::{assemble, Fault};

@@ -42,13 +42,13 @@ impl Memory {
             && self.trace.len() <= MOST_TRACE
     }
 
-    /// The state at the start: the book's cells, each cell labelled by itself.
+    /// The state at the start: the book's cells, and each cell labelled as its
+    /// label record says, or by itself where it has none.
     fn set(&mut self, book: &Book) {
         self.amounts.fill(0);
         self.presence.fill(0);
-        self.labels.fill(0);
-        for place in 0..512 {
-            self.labels[8 * place + place / 64] = 1 << (place % 64);
+        for (words, label) in self.labels.chunks_exact_mut(8).zip(book.start_labels()) {
+            words.copy_from_slice(&label.0);
         }
         for cell in &book.cells {
             let place = place(cell.table, cell.owner, cell.line);

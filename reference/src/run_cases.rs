@@ -13,9 +13,11 @@ mod limits;
 mod nothing;
 mod office;
 mod outcome;
+mod remembered;
 mod rights;
 mod sample;
 mod scripts;
+mod second_days;
 mod stops;
 mod succession;
 mod sweeps;
@@ -91,7 +93,18 @@ impl Case {
 
 /// All cases, the same at every call. Each has its number as its seed.
 pub fn all() -> Vec<Case> {
-    let mut cases = [
+    let first_days = first_days();
+    let second_days = second_days::cases(&first_days);
+    let mut cases = [first_days, second_days].concat();
+    for (number, case) in cases.iter_mut().enumerate() {
+        case.seed = number as u32;
+    }
+    cases
+}
+
+/// The cases whose files are made for them, and not left by another.
+fn first_days() -> Vec<Case> {
+    [
         lent::cases(),
         files::cases(),
         limits::cases(),
@@ -110,12 +123,10 @@ pub fn all() -> Vec<Case> {
         explanations::cases(),
         taken_back::cases(),
         nothing::cases(),
+        remembered::cases(),
+        sample::cases_of_version_2(),
     ]
-    .concat();
-    for (number, case) in cases.iter_mut().enumerate() {
-        case.seed = number as u32;
-    }
-    cases
+    .concat()
 }
 
 /// The stream of these cases.

@@ -1,6 +1,8 @@
-//! A run as lines of text.
+//! A run as lines of text, and the book that it leaves for the next day.
 
+use crate::book::Refusal;
 use crate::run::{explain, run, Answer, Explained, Memory, Tests};
+use crate::writer::written;
 use std::fmt::Write;
 
 const BUDGET: u32 = 100_000;
@@ -19,6 +21,16 @@ pub fn explain_list(file: &[u8]) -> String {
     let mut memory = Memory::new(TRACE);
     let explained = explain(file, BUDGET, &mut memory);
     lines(&explained.answer, &memory.trace) + &reason(&explained)
+}
+
+/// The book for the next day: the file's own records with the cells and labels
+/// that its run leaves, finished or stopped.
+pub fn next_day(file: &[u8]) -> Result<Vec<u8>, Refusal> {
+    let mut memory = Memory::new(TRACE);
+    match run(file, BUDGET, &mut memory, Tests::Labelled) {
+        Answer::Refused(refusal) => Err(refusal),
+        Answer::Ended { .. } => written(file, &memory),
+    }
 }
 
 fn reason(explained: &Explained) -> String {

@@ -8,6 +8,7 @@ use reference::generate;
 use reference::random::Random;
 use reference::run::{explain, on_deep_stack, run, Answer, Tests};
 use std::ops::Range;
+use support::chains::{Chains, Counts};
 use support::coverage::Coverage;
 use support::pairs::Pairs;
 use support::postings::Postings;
@@ -33,6 +34,15 @@ const PAIRS_THAT_TOOK_BACK: usize = 50_000;
 /// one does.
 const PAIRS_OF_NOTHING: usize = 50_000;
 const PAIRS_OF_NOTHING_ONCE: usize = 10_000;
+
+/// Books of either version to be paired.
+const VERSIONED: u64 = 40_000;
+
+/// First days for each test function, of which there are two, and pairs of
+/// chains of these with label records to read on a later day and first days that
+/// differ: 200,000 in both.
+const CHAINS: u64 = 76_000;
+const CHAINS_THAT_REMEMBER: usize = 100_000;
 
 /// Tries every seed; then tells how many failed, and the first of them whole.
 fn try_seeds(seeds: Range<u64>, mut check: impl FnMut(u64) -> Result<(), String>) {
@@ -80,6 +90,69 @@ fn demand_3(part: u64) {
         assert!(of_nothing >= PAIRS_OF_NOTHING);
         assert!(once >= PAIRS_OF_NOTHING_ONCE);
     });
+}
+
+/// The same of books of either version, that may start with other labels in what
+/// the group cannot reach.
+#[test]
+fn demand_3_of_versions() {
+    on_deep_stack(|| {
+        let mut pairs = Pairs::new();
+        // Other seeds than all others here.
+        let first = 4 << 32;
+        try_seeds(first..first + VERSIONED, |seed| pairs.check_versions(seed));
+        let (tried, versions, relabelled) = (pairs.tried, pairs.versions, pairs.relabelled);
+        println!("{tried} pairs, by version {versions:?}, {relabelled} with other labels");
+        assert!(versions.iter().all(|&count| count >= 2_000));
+        assert!(relabelled >= 15_000);
+        assert!(pairs.finished_with_trace > tried / 20);
+        assert!(pairs.stopped_for_labels > tried / 8);
+    });
+}
+
+/// What a group sees of a chain of days does not depend on cells outside the
+/// reach of all these days.
+fn demand_3_over_days(part: u64) {
+    on_deep_stack(|| {
+        let mut chains = Chains::new();
+        // Other seeds again.
+        let first = (5 << 32) + part * CHAINS;
+        try_seeds(first..first + CHAINS, |seed| chains.check(seed));
+        let counts = chains.counts;
+        println!("{counts:?}");
+        demand_chains(&counts);
+    });
+}
+
+fn demand_chains(counts: &Counts) {
+    let tried = counts.tried;
+    assert!(
+        counts.read_and_differing >= CHAINS_THAT_REMEMBER,
+        "{counts:?}"
+    );
+    assert!(counts.second_days >= CHAINS_THAT_REMEMBER / 2, "{counts:?}");
+    assert!(counts.mixed_versions > tried / 20, "{counts:?}");
+    assert!(counts.finished > tried / 10, "{counts:?}");
+    assert!(counts.finished_with_later_trace > tried / 40, "{counts:?}");
+    assert!(counts.refused > tried / 100, "{counts:?}");
+    assert!(
+        counts.lengths[1..].iter().all(|&count| count > tried / 100),
+        "{counts:?}"
+    );
+    // 25, 26, 27 and 29 are tests on labels.
+    for number in [0, 1, 2, 4] {
+        assert!(counts.later_stops[number] > tried / 400, "{counts:?}");
+    }
+}
+
+#[test]
+fn demand_3_over_days_part_0() {
+    demand_3_over_days(0);
+}
+
+#[test]
+fn demand_3_over_days_part_1() {
+    demand_3_over_days(1);
 }
 
 /// The tests on labels only ever stop a run; budget and trace only cut it off.
@@ -170,7 +243,7 @@ fn postings_are_taken_back_whole() {
 #[test]
 fn explaining_is_running() {
     on_deep_stack(|| {
-        let mut numbers = [0; 32];
+        let mut numbers = [0; 33];
         try_seeds(0..20_000, |seed| {
             let mut random = Random::new(seed);
             let mut lent = Lent::new();
@@ -190,7 +263,7 @@ fn explaining_is_running() {
                 false => Err(format!("{explained:?}")),
             }
         });
-        for number in (0..=10).chain(21..=31) {
+        for number in (0..=10).chain(21..=32) {
             let count = numbers[number];
             assert!(count >= 20, "answer {number} came {count} times");
         }
@@ -207,7 +280,7 @@ fn ample(random: &mut Random, lent: &mut Lent) -> (Vec<u8>, u32) {
 
 /// The same, where the file is damaged and a length or the budget may be off.
 fn often_refused(random: &mut Random, lent: &mut Lent) -> (Vec<u8>, u32) {
-    let book = generate::book(random);
+    let book = generate::of_either_version(random);
     let file = generate::damaged(random, &book);
     lent.soil(random, 64);
     // A book that is accepted after all need not run far.
@@ -225,7 +298,7 @@ fn often_refused(random: &mut Random, lent: &mut Lent) -> (Vec<u8>, u32) {
 /// A refused file, length or budget leaves all that was lent as it was.
 #[test]
 fn refusals_leave_memory_alone() {
-    let mut numbers = [0; 11];
+    let mut numbers = [0; 33];
     try_seeds(0..20_000, |seed| {
         let mut lent = Lent::new();
         let (file, budget) = often_refused(&mut Random::new(seed), &mut lent);
@@ -240,7 +313,8 @@ fn refusals_leave_memory_alone() {
         }
         Ok(())
     });
-    for (number, &count) in numbers.iter().enumerate().skip(1) {
+    for number in (1..=10).chain([32]) {
+        let count = numbers[number];
         assert!(count >= 40, "refusal {number} came {count} times");
     }
 }

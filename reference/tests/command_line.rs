@@ -59,6 +59,18 @@ fn explain_adds_a_line() {
 }
 
 #[test]
+fn next_writes_the_book_for_the_next_day() {
+    let monday = include_bytes!("../../examples/monday.book");
+    let output = reference(&["next".as_ref()], monday);
+    assert_eq!(output.stdout, include_bytes!("../../examples/tuesday.book"));
+    assert_eq!(output.status.code(), Some(0));
+    let output = reference(&["next".as_ref()], b"");
+    assert_eq!(output.stdout, b"");
+    assert_eq!(output.stderr, b"refused 2 0\n");
+    assert_eq!(output.status.code(), Some(1));
+}
+
+#[test]
 fn a_refused_book_is_listed() {
     for (command, expected) in [
         ("run", "refused 2 0\n"),

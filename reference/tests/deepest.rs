@@ -12,7 +12,7 @@ use reference::run_list::run_list;
 fn each_runs_to_its_end() {
     for link in [Link::If, Link::Then] {
         let book = book(link);
-        assert_eq!(book.counts(), [0, 9, 2, 1_024, 1, 8]);
+        assert_eq!(book.counts(), [0, 9, 2, 1_024, 1, 8, 0]);
         assert_eq!(Book::decode(&book.encode()).as_ref(), Ok(&book));
         let lines = on_deep_stack(|| run_list(&book.encode()));
         assert_eq!(lines, "out 0 9\ndone 18316\n", "{link:?}");

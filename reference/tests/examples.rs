@@ -1,25 +1,28 @@
 //! The examples: each text says in its comment what the run lists. Those lines,
 //! and the reasons for stops, were worked out by hand.
 
+use reference::book::Book;
 use reference::notation::assemble;
-use reference::places::place;
+use reference::places::{place, Places};
 use reference::run::{run, Memory, Tests};
-use reference::run_list::run_list;
+use reference::run_list::{next_day, run_list};
 use std::fs;
 use std::path::PathBuf;
 
 /// What an example's explanation ends with, where a test on labels stops it. In
 /// `posting` the control total has what was copied from the bank's line. In
 /// `taken_back` owner 2's total has his lines but for line 1, whose label was
-/// empty until the rent there was taken back. In the others, owner 2's eight
+/// empty until the rent there was taken back. In `tuesday` the cell that was
+/// copied on Monday is in the way. In the others, owner 2's eight
 /// lines are what owner 1 or his variable lacks.
-const REASONS: [(&str, &str); 6] = [
+const REASONS: [(&str, &str); 7] = [
     ("w", "place 0 2 0 count 8\n"),
     ("grant", "place 0 2 0 count 8\n"),
     ("leak", "place 0 2 0 count 8\n"),
     ("raised", "place 0 2 0 count 8\n"),
     ("posting", "place 0 2 3 count 1\n"),
     ("taken_back", "place 0 2 0 count 7\n"),
+    ("tuesday", "place 0 2 0 count 1\n"),
 ];
 
 /// What marks an expected line inside a comment.
@@ -90,4 +93,28 @@ fn the_failed_posting_is_taken_back_and_the_other_stays() {
         own[place / 64] = 1 << (place % 64);
         assert_eq!(memory.labels[8 * place..8 * place + 8], own);
     }
+}
+
+/// What Monday leaves is Tuesday's book, with one label record; without it the
+/// book is the one of version 1.
+#[test]
+fn tuesday_remembers_monday() {
+    let texts = [
+        include_str!("../../examples/monday.txt"),
+        include_str!("../../examples/tuesday.txt"),
+        include_str!("../../examples/tuesday_forgotten.txt"),
+    ];
+    let [monday, tuesday, forgotten] = texts.map(|text| assemble(text).unwrap());
+    assert_eq!(monday.version(), 1);
+    assert_eq!(next_day(&monday.encode()), Ok(tuesday.encode()));
+    let [record] = tuesday.labels.as_deref().unwrap() else {
+        panic!("{:?}", tuesday.labels);
+    };
+    assert_eq!(usize::from(record.place), place(0, 1, 0));
+    assert_eq!(record.label, Places::single(place(0, 2, 0)));
+    let without_labels = Book {
+        labels: None,
+        ..tuesday
+    };
+    assert_eq!(without_labels, forgotten);
 }

@@ -3,6 +3,7 @@
 use reference::book::{Book, Cell, Node, Program, Region, Right, Trigger};
 use reference::generate;
 use reference::notation::{assemble, list};
+use reference::places::Places;
 use reference::random::Random;
 use std::io::Write;
 use std::process::{Command, Output, Stdio};
@@ -136,6 +137,7 @@ fn every_form_gives_its_record() {
         nodes: all_kinds_nodes(),
         programs: vec![Program { user: 0, root: 24 }, Program { user: 7, root: 18 }],
         triggers: vec![trigger(0, 1, 0, 16), trigger(1, 2, 7, 13)],
+        labels: None,
     };
     let book = assemble(ALL_KINDS).expect("the text has no fault");
     assert_eq!(book, expected);
@@ -153,7 +155,7 @@ fn a_listing_of_a_text_assembles_to_the_same_book() {
 #[test]
 fn list_and_assemble_undo_each_other() {
     for seed in 0..6_000 {
-        let book = generate::book(&mut Random::new(seed));
+        let book = generate::of_either_version(&mut Random::new(seed));
         let text = list(&book);
         let back = assemble(&text).unwrap_or_else(|fault| panic!("seed {seed}: {fault}"));
         assert_eq!(back, book, "seed {seed}");
@@ -293,7 +295,119 @@ const FAULTS: &[(&str, &str)] = &[
         "the form is: trigger REGION put|clear USER BODY",
     ),
     ("trigger r put 0 r", "`r` should be a command"),
+    (
+        "label 1 1 1",
+        "the form is: label TABLE OWNER LINE = PLACE PLACE .. (or: nothing)",
+    ),
+    (
+        "label 1 1 1 =",
+        "the form is: label TABLE OWNER LINE = PLACE PLACE .. (or: nothing)",
+    ),
+    ("label 1 8 1 = nothing", "owner 8 is outside 0-7"),
+    (
+        "label 1 1 1 = 1.1.1",
+        "a cell labelled by its own place alone has no label record",
+    ),
+    ("label 1 1 1 = 1.1.8", BAD_PLACE_118),
+    ("label 1 1 1 = 0.0.0 1.1", BAD_PLACE_11),
+    ("version 1", "the form is: version 2"),
+    ("version", "the form is: version 2"),
 ];
+
+const BAD_PLACE_118: &str =
+    "`1.1.8` should be TABLE.OWNER.LINE, where owner and line may be FIRST-LAST";
+const BAD_PLACE_11: &str =
+    "`1.1` should be TABLE.OWNER.LINE, where owner and line may be FIRST-LAST";
+
+/// The label of a cell whose record is this text.
+fn label_of(text: &str) -> Option<Places> {
+    let book = assemble(&format!("label 2 3 4 = {text}\n")).ok()?;
+    let records = book.labels?;
+    assert_eq!(records.len(), 1);
+    assert_eq!(records[0].place, 156);
+    Some(records[0].label)
+}
+
+#[test]
+fn a_label_is_a_list_of_places() {
+    let places = |members: &[usize]| {
+        members.iter().fold(Places::EMPTY, |set, &place| {
+            set.union(&Places::single(place))
+        })
+    };
+    for (text, members) in [
+        ("0.0.0", &[0][..]),
+        ("7.7.7 2.3.4", &[511, 156]),
+        ("1.0.2-4", &[66, 67, 68]),
+        ("1.6-7.0", &[112, 120]),
+        ("3.0-1.6-7 3.1.7", &[198, 199, 206, 207]),
+        ("nothing", &[]),
+    ] {
+        assert_eq!(label_of(text), Some(places(members)), "{text}");
+    }
+    let full = "0.0-7.0-7 1.0-7.0-7 2.0-7.0-7 3.0-7.0-7 4.0-7.0-7 5.0-7.0-7 6.0-7.0-7 7.0-7.0-7";
+    assert_eq!(label_of(full), Some(Places([u64::MAX; 8])));
+    for text in [
+        "8.0.0",
+        "0.8.0",
+        "0.0",
+        "0.0.0.0",
+        "0.0.3-2",
+        "0.0.1-",
+        "0.0.-1",
+        "0..0",
+        "00.0.0",
+        "0-1.0.0",
+        "nothing 0.0.0",
+        "nothing nothing",
+    ] {
+        assert_eq!(label_of(text), None, "{text}");
+    }
+}
+
+#[test]
+fn labels_stand_in_rising_order() {
+    for (first, second) in [("0 0 1", "0 0 0"), ("0 0 1", "0 0 1"), ("3 0 0", "2 7 7")] {
+        let text = format!("label {first} = nothing\nlabel {second} = nothing\n");
+        let fault = assemble(&text).expect_err(second);
+        assert_eq!(fault.line, 2);
+        assert_eq!(
+            fault.message,
+            "labels stand in rising order of table, owner, line"
+        );
+    }
+}
+
+/// A label record or the line about it makes a book one of version 2, and
+/// nothing else does. Names may be what they always could.
+#[test]
+fn a_text_says_its_version() {
+    assert_eq!(assemble(ALL_KINDS).unwrap().version(), 1);
+    let old = "node label = skip\nnode version = label then label\nnode nothing = skip\n";
+    assert_eq!(assemble(old).unwrap().version(), 1);
+    for line in ["version 2", "label 0 0 0 = nothing", "version 2\nversion 2"] {
+        let before = assemble(&format!("{line}\n{ALL_KINDS}")).unwrap();
+        let after = assemble(&format!("{ALL_KINDS}{line}\n")).unwrap();
+        assert_eq!(before.version(), 2, "{line}");
+        assert_eq!(before, after, "{line}");
+        assert_eq!(Book::decode(&before.encode()).as_ref(), Ok(&before));
+    }
+    let without_labels = assemble("version 2").unwrap();
+    assert_eq!(without_labels.encode().len(), 40);
+    assert_eq!(list(&without_labels), "version 2\n");
+}
+
+#[test]
+fn a_listed_label_is_short() {
+    let mut book = assemble("label 0 0 0 = nothing\nlabel 7 7 7 = 0.1.0 0.2.0-7\n").unwrap();
+    let text = "version 2\nlabel 0 0 0 = nothing\nlabel 7 7 7 = 0.1.0 0.2.0-7\n";
+    assert_eq!(list(&book), text);
+    let labels = book.labels.as_mut().unwrap();
+    labels[0].label = Places([u64::MAX, 0, 0x0505, 0, 0, 0, 0, 1 << 63]);
+    labels.pop();
+    let text = "version 2\nlabel 0 0 0 = 0.0-7.0-7 2.0-1.0 2.0-1.2 7.7.7\n";
+    assert_eq!(list(&book), text);
+}
 
 #[test]
 fn each_fault_names_its_line() {

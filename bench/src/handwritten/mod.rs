@@ -97,10 +97,16 @@ pub fn load<L: Label>(
     answered(start::<L>(file, amounts, presence, labels).map(|_| 0))
 }
 
-/// Writes the book in a file with the cells of lent memory for its own.
+/// Writes the book in a file with the cells and labels of lent memory for its own.
 #[inline(never)]
-pub fn write(file: &[u8], amounts: &[i32], presence: &[u64], out: &mut [u8]) -> Answered {
-    answered(written(file, amounts, presence, out))
+pub fn write(
+    file: &[u8],
+    amounts: &[i32],
+    presence: &[u64],
+    labels: &[u64],
+    out: &mut [u8],
+) -> Answered {
+    answered(written(file, amounts, presence, labels, out))
 }
 
 fn start<'a, L: Label>(
@@ -119,16 +125,22 @@ fn written(
     file: &[u8],
     amounts: &[i32],
     presence: &[u64],
+    labels: &[u64],
     out: &mut [u8],
 ) -> Result<usize, Refusal> {
-    let (Ok(amounts), Ok(presence)) = (amounts.try_into(), presence.try_into()) else {
+    let (labels, []) = labels.as_chunks() else {
+        return Err(REFUSED_1);
+    };
+    let (Ok(amounts), Ok(presence), Ok(labels)) =
+        (amounts.try_into(), presence.try_into(), labels.try_into())
+    else {
         return Err(REFUSED_1);
     };
     if out.len() < LEAST_OUTPUT {
         return Err(REFUSED_1);
     }
     let book = Book::read(file)?;
-    Ok(writer::write(file, &book, amounts, presence, out))
+    Ok(writer::write(&book, amounts, presence, labels, out))
 }
 
 fn answered(result: Result<usize, Refusal>) -> Answered {

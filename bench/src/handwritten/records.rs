@@ -1,10 +1,11 @@
-//! Whether the records other than nodes are good: refusals 5 to 7, 9 and 10.
+//! Whether the records other than nodes are good: refusals 5 to 7, 9, 10 and 32.
 //!
 //! Fields of one byte that may be 0 to 7, and bytes that are 0, are tested
 //! together: the record's bytes as one number, against the bits that must be 0.
 
-use super::book::Refusal;
+use super::book::{Refusal, LABEL};
 use super::kinds::{Flags, BARRED, COMMAND};
+use super::sets::Set;
 
 /// Refuses the first record that is not good, if there is one.
 fn check<const SIZE: usize>(
@@ -68,6 +69,29 @@ pub fn check_triggers(triggers: &[[u8; 8]], regions: usize, flags: &Flags) -> Re
             && usize::from(region) < regions
             && (event == 1 || event == 2)
             && body & (COMMAND | BARRED) == COMMAND
+    })
+}
+
+/// The place and the label of a label record.
+#[inline(always)]
+pub fn label(record: &[u8; LABEL]) -> (usize, Set) {
+    let [low, high, words @ ..] = record;
+    let mut label = [0; 8];
+    for (word, bytes) in label.iter_mut().zip(words.as_chunks().0) {
+        *word = u64::from_le_bytes(*bytes);
+    }
+    (usize::from(u16::from_le_bytes([*low, *high])), label)
+}
+
+pub fn check_labels(labels: &[[u8; LABEL]]) -> Result<(), Refusal> {
+    let mut least = 0;
+    check(32, labels, |record| {
+        let (place, mut label) = label(record);
+        let rises = place >= least;
+        least = place + 1;
+        // Nothing is left of the own place alone.
+        label[place / 64 % 8] ^= 1 << (place % 64);
+        place < 512 && rises && label.iter().fold(0, |all, word| all | word) != 0
     })
 }
 

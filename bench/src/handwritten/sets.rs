@@ -1,5 +1,7 @@
 //! Sets of places, and labels: kept as sets, or not kept at all.
 
+use super::book::LABEL;
+use super::records;
 use super::regions::{Area, Region};
 
 /// A set of places: bit 8·owner + line of word `table`.
@@ -9,8 +11,9 @@ pub type Set = [u64; 8];
 pub trait Label: Copy {
     const EMPTY: Self;
 
-    /// Gives each cell the label that it has at the start: its own place alone.
-    fn start(labels: &mut [Set; 512]);
+    /// Gives each cell the label that it has at the start: that of its record, or
+    /// its own place alone.
+    fn start(labels: &mut [Set; 512], records: &[[u8; LABEL]]);
 
     fn join(&mut self, other: &Self);
 
@@ -33,10 +36,14 @@ pub trait Label: Copy {
 impl Label for Set {
     const EMPTY: Set = [0; 8];
 
-    fn start(labels: &mut [Set; 512]) {
+    fn start(labels: &mut [Set; 512], records: &[[u8; LABEL]]) {
         for (place, label) in labels.iter_mut().enumerate() {
             *label = Set::EMPTY;
             label[place / 64] = 1 << (place % 64);
+        }
+        for record in records {
+            let (place, label) = records::label(record);
+            labels[place % 512] = label;
         }
     }
 
@@ -94,7 +101,7 @@ pub struct Unlabelled;
 impl Label for Unlabelled {
     const EMPTY: Unlabelled = Unlabelled;
 
-    fn start(_: &mut [Set; 512]) {}
+    fn start(_: &mut [Set; 512], _: &[[u8; LABEL]]) {}
 
     fn join(&mut self, _: &Unlabelled) {}
 

@@ -30,7 +30,7 @@ impl<'a> Cells<'a> {
 
     /// Sets the cells from the book, whatever stood there.
     pub fn start<L: Label>(&mut self, book: &Book) {
-        L::start(self.labels);
+        L::start(self.labels, book.labels);
         self.amounts.fill(0);
         self.presence.fill(0);
         for record in book.cells {

@@ -1,10 +1,13 @@
 //! The book with every section full, which is only read and written.
 
 use reference::book::kind::{ADD, COUNT, EQUAL, LARGEST, LESS, SMALLEST, SUBTRACT, SUM};
-use reference::book::Book;
+use reference::book::{Book, LabelRecord};
 use reference::builder::Builder;
+use reference::places::Places;
 
 pub const LENGTH: u32 = 21_380;
+/// With a label record for every cell.
+pub const LABELLED_LENGTH: u32 = 55_176;
 
 const NODES: usize = 1_024;
 /// How many nodes one turn of `script` adds.
@@ -38,6 +41,20 @@ pub fn book() -> Book {
         }
     }
     builder.book
+}
+
+/// The same with a label of several places for every cell.
+pub fn labelled() -> Book {
+    let labels = (0..512_u16).map(|place| LabelRecord {
+        place,
+        label: Places(std::array::from_fn(|word| {
+            0x0101_0101_0101_0101 << ((usize::from(place) + word) % 8)
+        })),
+    });
+    Book {
+        labels: Some(labels.collect()),
+        ..book()
+    }
 }
 
 /// A command that a trigger may run.

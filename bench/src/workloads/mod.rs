@@ -20,7 +20,7 @@ pub struct Workload {
     pub answer: Answer,
 }
 
-pub fn all() -> [Workload; 8] {
+pub fn all() -> [Workload; 11] {
     [
         run("arithmetic", arithmetic::book(), arithmetic::COST),
         run("queries", queries::book(), queries::COST),
@@ -29,18 +29,35 @@ pub fn all() -> [Workload; 8] {
         cascades("cascades-double", 2 * cascades::TURNS),
         run("smallest", smallest(), 2),
         Workload {
-            name: "reading",
-            file: full::book().encode(),
-            call: Call::Load,
+            name: "smallest-2",
+            file: smallest_2().encode(),
+            call: Call::Run { budget: BUDGET },
             answer: [0, 0, 0, 0],
         },
-        Workload {
-            name: "writing",
-            file: full::book().encode(),
-            call: Call::Write,
-            answer: [0, 0, full::LENGTH, 0],
-        },
+        reading("reading", full::book()),
+        reading("reading-2", full::labelled()),
+        // A written book has a seventh pair, whatever it is written from.
+        writing("writing", full::book(), full::LENGTH + 4),
+        writing("writing-2", full::labelled(), full::LABELLED_LENGTH),
     ]
+}
+
+fn reading(name: &'static str, book: Book) -> Workload {
+    Workload {
+        name,
+        file: book.encode(),
+        call: Call::Load,
+        answer: [0, 0, 0, 0],
+    }
+}
+
+fn writing(name: &'static str, book: Book, length: u32) -> Workload {
+    Workload {
+        name,
+        file: book.encode(),
+        call: Call::Write,
+        answer: [0, 0, length, 0],
+    }
 }
 
 /// A run that tells something once and finishes.
@@ -65,6 +82,14 @@ fn smallest() -> Book {
     let tell = builder.out(1, one);
     builder.program(0, tell);
     builder.book
+}
+
+/// Version 2 with no records at all: 40 bytes.
+fn smallest_2() -> Book {
+    Book {
+        labels: Some(Vec::new()),
+        ..Book::default()
+    }
 }
 
 /// One command after another, at least one.

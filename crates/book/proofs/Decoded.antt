@@ -3,8 +3,8 @@ use mathlib.Core.Path.{_≡_}
 use mathlib.Core.List.{List}
 use Prim.Native.Nat.{ℕ, _+_, _*_, _<_}
 use lib.ListN.{length, getD}
-use Rattle.book.specs.Records.{CellRecord, RegionRecord, RightRecord, NodeRecord, ProgramRecord, TriggerRecord, cells-format, regions-format, rights-format, nodes-format, programs-format, triggers-format}
-use Rattle.book.specs.Layout.{count, section, decode}
+use Rattle.book.specs.Records.{CellRecord, RegionRecord, RightRecord, NodeRecord, ProgramRecord, TriggerRecord, LabelRecord, cells-format, regions-format, rights-format, nodes-format, programs-format, triggers-format, labels-format}
+use Rattle.book.specs.Layout.{count, section, label-section, decode}
 use Rattle.book.proofs.Records.{length-records, record-at}
 
 -- ---- the counts
@@ -33,6 +33,10 @@ pub count-triggers : (s : List ℕ) → length (decode s .triggers) ≡ count s 
 unfolding decode
 count-triggers s = length-records triggers-format _ _ s
 
+pub count-labels : (s : List ℕ) → length (decode s .labels) ≡ label-section s .count
+unfolding decode
+count-labels s = length-records labels-format _ _ s
+
 -- ---- record i
 
 pub cell-read : (s : List ℕ) (i : ℕ) (d : CellRecord) → i < count s 0 → getD (decode s .cells) i d ≡ cells-format .read s (section s 0 .start + i * 8)
@@ -58,3 +62,7 @@ program-read s i d h = record-at programs-format _ _ s i d h
 pub trigger-read : (s : List ℕ) (i : ℕ) (d : TriggerRecord) → i < count s 5 → getD (decode s .triggers) i d ≡ triggers-format .read s (section s 5 .start + i * 8)
 unfolding decode triggers-format
 trigger-read s i d h = record-at triggers-format _ _ s i d h
+
+pub label-read : (s : List ℕ) (i : ℕ) (d : LabelRecord) → i < label-section s .count → getD (decode s .labels) i d ≡ labels-format .read s (label-section s .start + i * 66)
+unfolding decode labels-format
+label-read s i d h = record-at labels-format _ _ s i d h

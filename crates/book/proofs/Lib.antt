@@ -4,8 +4,10 @@ pub mod Chains
 pub mod Sections
 pub mod Decoded
 pub mod Scans
+pub mod Least
 pub mod Verdicts
 pub mod Accepted
 pub mod Tabulate
 pub mod Costs
+pub mod Remembered
 pub mod Examples

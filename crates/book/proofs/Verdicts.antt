@@ -7,11 +7,11 @@ use Prim.Native.Nat.{ℕ, _≤_, _<_}
 use native.Mathlib.Omega.{arith}
 use lib.Dec.{ltb}
 use borrow.Author.Tests.{lt-ltb, le-ltb, ltb-false}
-use Rattle.book.specs.Layout.{count, decode}
-use Rattle.book.specs.Refusals.{verdict-values, and-then, need, first, blame, bad-cell, bad-region, bad-right, bad-node, bad-program, bad-trigger, book-verdict}
+use Rattle.book.specs.Layout.{count, label-section, decode}
+use Rattle.book.specs.Refusals.{verdict-values, and-then, need, first, blame, bad-cell, bad-region, bad-right, bad-node, bad-program, bad-trigger, bad-label, book-verdict}
 use Rattle.book.specs.declared.Verdict.{Verdict}
 use Rattle.book.specs.declared.Verdict.the-variants.{Accepted, Refused}
-use Rattle.book.proofs.Decoded.{count-cells, count-regions, count-rights, count-nodes, count-programs, count-triggers}
+use Rattle.book.proofs.Decoded.{count-cells, count-regions, count-rights, count-nodes, count-programs, count-triggers, count-labels}
 use Rattle.book.proofs.First.{below-first}
 
 pub passes : {v : Verdict} (w : Verdict) → v ≡ Accepted → and-then v w ≡ w
@@ -68,10 +68,13 @@ blame-accepts number bad n e i h = go (ltb (first bad n) n) refl
         cc
     go false q = below-first bad n i (omega (arith, ltb-false (first bad n) n q))
 
--- ---- refusals 5 to 10 of a file: what is left of them from each section on
+-- ---- refusals 5 to 10 and 32 of a file: what is left of them from each section on
+
+abbrev pub labels-verdict : List ℕ → Verdict
+labels-verdict s = blame 32 (bad-label (decode s .labels)) (label-section s .count)
 
 abbrev pub triggers-verdict : List ℕ → Verdict
-triggers-verdict s = blame 10 (bad-trigger (decode s)) (count s 5)
+triggers-verdict s = and-then (blame 10 (bad-trigger (decode s)) (count s 5)) (labels-verdict s)
 
 abbrev pub programs-verdict : List ℕ → Verdict
 programs-verdict s = and-then (blame 9 (bad-program (decode s)) (count s 4)) (triggers-verdict s)
@@ -87,4 +90,4 @@ regions-verdict s = and-then (blame 6 (bad-region (decode s .regions)) (count s 
 
 pub counted : (s : List ℕ) → book-verdict (decode s) ≡ and-then (blame 5 (bad-cell (decode s .cells)) (count s 0)) (regions-verdict s)
 unfolding book-verdict
-counted s = rw (count-cells s, count-regions s, count-rights s, count-nodes s, count-programs s, count-triggers s)
+counted s = rw (count-cells s, count-regions s, count-rights s, count-nodes s, count-programs s, count-triggers s, count-labels s)

@@ -1,12 +1,12 @@
--- The records of the six sections, as the paper's table lays them out, and the decoded book.
+-- The records of the seven sections, as the paper's table lays them out, and the decoded book.
 -- A field that the paper calls 0 is kept, as `zero` or `zeros`, so that a record says all of its bytes.
 use mathlib.Core.Path.{_≡_}
 use mathlib.Core.List.{List, [], _∷_, _++_}
-use Prim.Native.Nat.{ℕ, zero, suc, _+_}
+use Prim.Native.Nat.{ℕ, zero, suc, _+_, _%_, _^_}
 use lib.IntN.{ℤ}
 use Rattle.places.specs.Places.{place}
 use Rattle.regions.specs.declared.Region.{Region}
-use Rattle.book.specs.Bytes.{byte, le16, le24, le32, signed32, bits32, two, three, four}
+use Rattle.book.specs.Bytes.{byte, le16, le24, le32, le64, signed32, bits32, two, three, four, eight}
 
 -- how the records of a section are laid out: how many at most, the bytes of each, and both directions
 pub record Format (A : Type 0) : Type 0 where
@@ -154,6 +154,47 @@ triggers-format = record {
   write = λ t. t .region ∷ t .event ∷ t .user ∷ t .zero ∷ (two (t .body) ++ two (t .zeros));
 }
 
+-- place, eight label words (02, Change 5)
+pub record LabelRecord : Type 0 where
+  pub place : ℕ
+  pub w0 : ℕ
+  pub w1 : ℕ
+  pub w2 : ℕ
+  pub w3 : ℕ
+  pub w4 : ℕ
+  pub w5 : ℕ
+  pub w6 : ℕ
+  pub w7 : ℕ
+
+-- a word has 64 bits
+abbrev pub word64 : ℕ → ℕ
+word64 n = n % 2 ^ 64
+
+-- the label that a record gives its cell
+unfoldable pub label-of : LabelRecord → List ℕ
+label-of r =
+    word64 (r .w0) ∷ word64 (r .w1) ∷ word64 (r .w2) ∷ word64 (r .w3) ∷ word64 (r .w4) ∷ word64 (r .w5) ∷ word64 (r .w6) ∷ word64 (r .w7) ∷ []
+
+unfoldable pub labels-format : Format LabelRecord
+labels-format = record {
+  most = 512;
+  size = 66;
+  read = λ s at. record {
+    place = le16 s at;
+    w0 = le64 s (at + 2);
+    w1 = le64 s (at + 10);
+    w2 = le64 s (at + 18);
+    w3 = le64 s (at + 26);
+    w4 = le64 s (at + 34);
+    w5 = le64 s (at + 42);
+    w6 = le64 s (at + 50);
+    w7 = le64 s (at + 58);
+  };
+  write = λ r.
+      two (r .place)
+      ++ (eight (r .w0) ++ eight (r .w1) ++ eight (r .w2) ++ eight (r .w3) ++ eight (r .w4) ++ eight (r .w5) ++ eight (r .w6) ++ eight (r .w7));
+}
+
 -- the decoded book
 pub record Book : Type 0 where
   pub cells : List CellRecord
@@ -162,6 +203,7 @@ pub record Book : Type 0 where
   pub nodes : List NodeRecord
   pub programs : List ProgramRecord
   pub triggers : List TriggerRecord
+  pub labels : List LabelRecord
 
 -- two books whose region, rights, node, program and trigger records are the same in the same order
 pub record SameScripts (b b' : Book) : Type 0 where

@@ -1,4 +1,4 @@
--- Refusals 2 to 10: the number and the first bad record's index, in the paper's order.
+-- Refusals 2 to 10 and 32: the number and the first bad record's index, in the paper's order.
 use mathlib.Core.Path.{_≡_}
 use mathlib.Core.List.{List, [], _∷_}
 use mathlib.Core.Bool.{Bool, true, false, _&&_, _||_, not, cond}
@@ -6,9 +6,10 @@ use Prim.Native.Nat.{ℕ, zero, suc, _+_}
 use lib.Dec.{eqb, leb, ltb}
 use lib.IntN.{ℤ, pos, negsuc}
 use lib.ListN.{length, getD}
+use Rattle.labels.specs.Labels.{is-own}
 use Rattle.book.specs.Bytes.{byte, le24, le32}
-use Rattle.book.specs.Records.{CellRecord, RegionRecord, RightRecord, NodeRecord, ProgramRecord, TriggerRecord, Book, place-of}
-use Rattle.book.specs.Layout.{trailer, bounds, in-order, decode}
+use Rattle.book.specs.Records.{CellRecord, RegionRecord, RightRecord, NodeRecord, ProgramRecord, TriggerRecord, LabelRecord, Book, place-of, label-of}
+use Rattle.book.specs.Layout.{trailer, version, bounds, in-order, decode}
 use Rattle.book.specs.Kinds.{no-kind, expression, command, variable, table, user, region, right, constant, between, sort-of, Fields, fields-of}
 use Rattle.book.specs.declared.Verdict.{Verdict}
 use Rattle.book.specs.declared.Verdict.the-variants.{Accepted, Refused}
@@ -56,13 +57,13 @@ unfoldable pub marked : List ℕ → ℕ → List ℕ → Bool
 marked s at m =
     eqb (byte s at) (byte m 0) && (eqb (byte s (at + 1)) (byte m 1) && (eqb (byte s (at + 2)) (byte m 2) && eqb (byte s (at + 3)) (byte m 3)))
 
--- 3: the mark, version 1, three zero bytes
+-- 3: the mark, version 1 or 2, three zero bytes
 unfoldable pub mark-fits : List ℕ → Bool
-mark-fits s = marked s (trailer s) mark && (eqb (byte s (trailer s + 4)) 1 && eqb (le24 s (trailer s + 5)) 0)
+mark-fits s = marked s (trailer s) mark && (between 1 2 (version s) && eqb (le24 s (trailer s + 5)) 0)
 
--- 4: the sections follow one another from byte 0 to the trailer
+-- 4: the sections follow one another from byte 0 to what stands behind them; so version 2 has at least 40 bytes
 unfoldable pub sections-fit : List ℕ → Bool
-sections-fit s = in-order s 0 0 bounds
+sections-fit s = in-order s 0 0 (bounds s)
 
 -- what the checks of the records rely on: refusals 2 and 4 are passed
 pub record Laid (s : List ℕ) : Type 0 where
@@ -77,12 +78,12 @@ abbrev pub no-cell : CellRecord
 no-cell = record { table = 0; owner = 0; line = 0; zero = 0; amount = pos 0 }
 
 -- and the place is above that of the record before
-unfoldable pub rises : List CellRecord → ℕ → Bool
-rises cells zero = true
-rises cells (suc i) = ltb (place-of (getD cells i no-cell)) (place-of (getD cells (suc i) no-cell))
+unfoldable pub rises : {A : Type 0} → (A → ℕ) → A → List A → ℕ → Bool
+rises place none rs zero = true
+rises place none rs (suc i) = ltb (place (getD rs i none)) (place (getD rs (suc i) none))
 
 unfoldable pub bad-cell : List CellRecord → ℕ → Bool
-bad-cell cells i = not (cell-fits (getD cells i no-cell) && rises cells i)
+bad-cell cells i = not (cell-fits (getD cells i no-cell) && rises place-of no-cell cells i)
 
 -- 6: the table is 0 to 7, first ≤ last ≤ 7, and the three bytes called 0 are 0
 abbrev pub no-region : RegionRecord
@@ -185,7 +186,20 @@ trigger-fits b t =
 unfoldable pub bad-trigger : Book → ℕ → Bool
 bad-trigger b i = not (trigger-fits b (getD (b .triggers) i no-trigger))
 
--- refusals 5 to 10, of the decoded records
+-- 32: a place that there is, above that of the record before, and a label that is not the own place alone
+abbrev pub no-label : LabelRecord
+no-label = record { place = 0; w0 = 0; w1 = 0; w2 = 0; w3 = 0; w4 = 0; w5 = 0; w6 = 0; w7 = 0 }
+
+abbrev pub labelled : LabelRecord → ℕ
+labelled r = r .place
+
+unfoldable pub label-fits : LabelRecord → Bool
+label-fits r = ltb (r .place) 512 && not (is-own (r .place) (label-of r))
+
+unfoldable pub bad-label : List LabelRecord → ℕ → Bool
+bad-label labels i = not (label-fits (getD labels i no-label) && rises labelled no-label labels i)
+
+-- refusals 5 to 10 and 32, of the decoded records
 unfoldable pub book-verdict : Book → Verdict
 book-verdict b =
     and-then (blame 5 (bad-cell (b .cells)) (length (b .cells)))
@@ -193,9 +207,10 @@ book-verdict b =
     (and-then (blame 7 (bad-right b) (length (b .rights)))
     (and-then (blame 8 (bad-node b) (length (b .nodes)))
     (and-then (blame 9 (bad-program b) (length (b .programs)))
-    (blame 10 (bad-trigger b) (length (b .triggers)))))))
+    (and-then (blame 10 (bad-trigger b) (length (b .triggers)))
+    (blame 32 (bad-label (b .labels)) (length (b .labels))))))))
 
--- refusals 2 to 10 of a file
+-- refusals 2 to 10 and 32 of a file
 unfoldable pub verdict : List ℕ → Verdict
 verdict s =
     and-then (need 2 (length-fits s))

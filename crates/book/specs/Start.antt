@@ -1,4 +1,4 @@
--- The memory lent for the cells of a book, and its start state: its cells, and the public, read and write sets.
+-- The memory lent for the cells of a book, and its start state: its cells and their labels, and the public, read and write sets.
 use mathlib.Core.Path.{_≡_}
 use mathlib.Core.List.{List, [], _∷_, _++_}
 use mathlib.Core.Bool.{Bool, true, false, _&&_, _||_, cond}
@@ -7,10 +7,10 @@ use Prim.Native.Nat.{ℕ, zero, suc}
 use lib.Dec.{eqb}
 use lib.IntN.{ℤ, pos}
 use lib.ListN.{length, getD}
-use Rattle.places.specs.Sets.{set-of}
+use Rattle.places.specs.Sets.{set-of, single}
 use Rattle.regions.specs.Regions.{in-region}
-use Rattle.labels.specs.Labels.{own-labels}
-use Rattle.book.specs.Records.{CellRecord, RightRecord, Book, place-of, region-of}
+use Rattle.labels.specs.Labels.{labels-by}
+use Rattle.book.specs.Records.{CellRecord, RightRecord, LabelRecord, Book, place-of, region-of, label-of}
 use Rattle.book.specs.Refusals.{no-region}
 
 -- lent memory for the cells: 512 amounts, 8 presence words, 4,096 label words
@@ -45,9 +45,14 @@ start-amounts b = tabulate (λ p. or-zero (amount-at (b .cells) p)) 512
 unfoldable pub start-presence : Book → List ℕ
 start-presence b = set-of 8 (λ p. is-there (amount-at (b .cells) p))
 
--- each cell's label is its own place alone
-abbrev pub start-labels : List ℕ
-start-labels = own-labels 512
+-- the label of the record with place p; where there is none, p alone
+unfoldable pub remembered : List LabelRecord → ℕ → List ℕ
+remembered [] p = single 8 p
+remembered (r ∷ rs) p = cond (eqb (r .place) p) (label-of r) (remembered rs p)
+
+-- the label words
+unfoldable pub start-labels : Book → List ℕ
+start-labels b = labels-by (remembered (b .labels)) 512
 
 -- whether one of the rights records of this kind and user names a region that holds p
 unfoldable pub rights-hold : Book → ℕ → ℕ → List RightRecord → ℕ → Bool

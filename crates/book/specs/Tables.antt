@@ -4,9 +4,9 @@ use mathlib.Core.List.{List, [], _∷_, _++_, map}
 use mathlib.Core.Bool.{Bool, true, false}
 use Prim.Native.Nat.{ℕ, _+_, _-_}
 use lib.IntN.{ℤ, pos}
-use lib.ListN.{set}
+use lib.ListN.{getD, set}
 use Rattle.book.specs.Bytes.{byte}
-use Rattle.book.specs.Records.{CellRecord, RegionRecord, RightRecord, NodeRecord, ProgramRecord, TriggerRecord, Book}
+use Rattle.book.specs.Records.{CellRecord, RegionRecord, RightRecord, NodeRecord, ProgramRecord, TriggerRecord, LabelRecord, Book}
 
 -- ---- records, their zeros left out
 
@@ -109,10 +109,25 @@ program user root = record { user = user; zero = 0; root = root }
 abbrev pub trigger : ℕ → ℕ → ℕ → ℕ → TriggerRecord
 trigger region event user body = record { region = region; event = event; user = user; zero = 0; body = body; zeros = 0 }
 
+-- the label of a place, by its words; those that are left out are 0
+abbrev pub remember : ℕ → List ℕ → LabelRecord
+remember place words = record {
+  place = place;
+  w0 = getD words 0 0;
+  w1 = getD words 1 0;
+  w2 = getD words 2 0;
+  w3 = getD words 3 0;
+  w4 = getD words 4 0;
+  w5 = getD words 5 0;
+  w6 = getD words 6 0;
+  w7 = getD words 7 0;
+}
+
 -- ---- book W
 
-unfoldable pub w-file : List ℕ
-w-file =
+-- its sections
+abbrev pub w-sections : List ℕ
+w-sections =
     -- cells (0,1,0) = 250 and (0,2,0) = 900
     0 ∷ 1 ∷ 0 ∷ 0 ∷ 250 ∷ 0 ∷ 0 ∷ 0 ∷ 0 ∷ 2 ∷ 0 ∷ 0 ∷ 132 ∷ 3 ∷ 0 ∷ 0
     -- regions: table 0 owner 1, table 0 owner 2, all lines
@@ -132,11 +147,24 @@ w-file =
     ∷ 23 ∷ 1 ∷ 5 ∷ 0 ∷ 0 ∷ 0 ∷ 0 ∷ 0 ∷ 0 ∷ 0 ∷ 0 ∷ 0 ∷ 0 ∷ 0 ∷ 0 ∷ 0
     ∷ 18 ∷ 0 ∷ 6 ∷ 0 ∷ 7 ∷ 0 ∷ 0 ∷ 0 ∷ 0 ∷ 0 ∷ 0 ∷ 0 ∷ 0 ∷ 0 ∷ 0 ∷ 0
     -- program: user 0, root 8
-    ∷ 0 ∷ 0 ∷ 8 ∷ 0
+    ∷ 0 ∷ 0 ∷ 8 ∷ 0 ∷ []
+
+unfoldable pub w-file : List ℕ
+w-file =
+    w-sections
     -- "BKWS", version 1; distances 224, 208, 192, 184, 40, 36 with counts 2, 2, 2, 9, 1, 0; 224 bytes
-    ∷ 66 ∷ 75 ∷ 87 ∷ 83 ∷ 1 ∷ 0 ∷ 0 ∷ 0
+    ++ 66 ∷ 75 ∷ 87 ∷ 83 ∷ 1 ∷ 0 ∷ 0 ∷ 0
     ∷ 224 ∷ 0 ∷ 2 ∷ 0 ∷ 208 ∷ 0 ∷ 2 ∷ 0 ∷ 192 ∷ 0 ∷ 2 ∷ 0 ∷ 184 ∷ 0 ∷ 9 ∷ 0 ∷ 40 ∷ 0 ∷ 1 ∷ 0 ∷ 36 ∷ 0 ∷ 0 ∷ 0
     ∷ 224 ∷ 0 ∷ 0 ∷ 0 ∷ []
+
+-- as version 2: the seventh pair, no label records 40 bytes before the end; all other distances are 4 more
+unfoldable pub w-file-2 : List ℕ
+w-file-2 =
+    w-sections
+    ++ 40 ∷ 0 ∷ 0 ∷ 0
+    ∷ 66 ∷ 75 ∷ 87 ∷ 83 ∷ 2 ∷ 0 ∷ 0 ∷ 0
+    ∷ 228 ∷ 0 ∷ 2 ∷ 0 ∷ 212 ∷ 0 ∷ 2 ∷ 0 ∷ 196 ∷ 0 ∷ 2 ∷ 0 ∷ 188 ∷ 0 ∷ 9 ∷ 0 ∷ 44 ∷ 0 ∷ 1 ∷ 0 ∷ 40 ∷ 0 ∷ 0 ∷ 0
+    ∷ 228 ∷ 0 ∷ 0 ∷ 0 ∷ []
 
 -- the same book record by record, for the books that change a part of it
 abbrev pub w-cells : List CellRecord
@@ -156,7 +184,7 @@ w-nodes = sum 0 1 1 0 3 ∷ sum 0 1 2 0 3 ∷ out 4 1 ∷ out 5 1 ∷ both 6 7 �
 
 abbrev pub w-book : Book
 w-book =
-    record { cells = w-cells; regions = w-regions; rights = w-rights; nodes = constants ++ w-nodes; programs = program 0 8 ∷ []; triggers = [] }
+    record { cells = w-cells; regions = w-regions; rights = w-rights; nodes = constants ++ w-nodes; programs = program 0 8 ∷ []; triggers = []; labels = [] }
 
 -- ---- files with one byte changed
 

@@ -3,7 +3,8 @@ ghost use mathlib.Core.Path.{_≡_};
 ghost use Prim.Native.Nat.{_+_, _≤_, _<_};
 ghost use lib.ListN.{length};
 ghost use Rattle.book.specs.Records.{place-of, region-of, cells-format, regions-format};
-ghost use Rattle.book.specs.Layout.{distance, section};
+ghost use Rattle.book.specs.Layout.{distance, section, label-section};
+ghost use Rattle.book.specs.Refusals.{Laid};
 
 // A section of the file: the first byte, and the number of records.
 pub struct Section {
@@ -41,6 +42,26 @@ pub fn section_at(file: &[u8], i: usize) -> Section
     Section {
         start: end - distance,
         count,
+    }
+}
+
+// The section of label records, whose pair stands just before the trailer; a file of version 1 has none.
+pub fn label_section(file: &[u8]) -> Section
+    requires { ⌜ Laid (now file) ⌝ }
+    ensures { λ r. ⌜ r ≡ label-section (now (file .entry)) ⌝ }
+{
+    let end = file.len();
+    if numbers::byte_at(file, end - 32) != 2 {
+        return Section {
+            start: end - 36,
+            count: 0,
+        };
+    }
+    let back = numbers::u16_at(file, end - 40);
+    let records = numbers::u16_at(file, end - 38);
+    Section {
+        start: end - back,
+        count: records,
     }
 }
 

@@ -18,7 +18,7 @@
 extern "C" {
 #endif
 
-/* How a run ended. number: 0 if it finished, 1 to 10 if the call was refused, 21 to 31 if the run stopped. at: the index of the
+/* How a run ended. number: 0 if it finished, 1 to 10 or 32 if the call was refused, 21 to 31 if the run stopped. at: the index of the
  * first bad record (0 for refusals 1 to 4), or the node of the stop. cost: what the run spent. bytes: how many bytes of the
  * trace it wrote. Cost and bytes are 0 if the call was refused. */
 struct kagyurma_ran {
@@ -43,7 +43,7 @@ struct kagyurma_explained {
     uint32_t count;
 };
 
-/* How loading or writing ended. number: 0 if it was done, or the refusal, 1 to 10. at: the index of the first bad record.
+/* How loading or writing ended. number: 0 if it was done, or the refusal, 1 to 10 or 32. at: the index of the first bad record.
  * length: how many bytes of the output the written book has; 0 for a load and for a refusal. */
 struct kagyurma_answered {
     uint32_t number;
@@ -71,18 +71,20 @@ struct kagyurma_explained kagyurma_explain(const uint8_t *file, size_t file_len,
                                            uint64_t *labels, size_t labels_len,
                                            uint8_t *trace, size_t trace_len);
 
-/* Sets lent memory to the start state of the book in `file`: its cells, and for each place the label that holds this place
- * alone. */
+/* Sets lent memory to the start state of the book in `file`: its cells, and for each place the label of its label record, or where it has
+ * none the label that holds this place alone. A version 1 file has no label records. */
 struct kagyurma_answered kagyurma_load(const uint8_t *file, size_t file_len,
                                        int32_t *amounts, size_t amounts_len,
                                        uint64_t *presence, size_t presence_len,
                                        uint64_t *labels, size_t labels_len);
 
-/* Writes the book in `file`, with the present cells of lent memory for its own, to the start of `out`, which has at least 60000
- * bytes. The bytes of `out` after the book stay as they were. */
+/* Writes the book in `file`, with the present cells of lent memory for its own, as version 2 to the start of `out`, which has at least
+ * 60000 bytes. Label records stand for just the places, present or absent, whose label is not this place alone: so the next day's run starts
+ * with the labels that a run left. The bytes of `out` after the book stay as they were. */
 struct kagyurma_answered kagyurma_write(const uint8_t *file, size_t file_len,
                                         const int32_t *amounts, size_t amounts_len,
                                         const uint64_t *presence, size_t presence_len,
+                                        const uint64_t *labels, size_t labels_len,
                                         uint8_t *out, size_t out_len);
 
 #ifdef __cplusplus

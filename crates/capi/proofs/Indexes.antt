@@ -43,7 +43,8 @@ low-book s t =
     low-then _ _ (low-blame 7 _ _ (omega (arith, t .few-rights))) λ _.
     low-then _ _ (low-blame 8 _ _ (omega (arith, t .few-nodes))) λ _.
     low-then _ _ (low-blame 9 _ _ (omega (arith, t .few-programs))) λ _.
-    low-blame 10 _ _ (omega (arith, t .few-triggers)))
+    low-then _ _ (low-blame 10 _ _ (omega (arith, t .few-triggers))) λ _.
+    low-blame 32 _ _ (omega (arith, t .few-labels)))
 
 pub low-verdict : (s : List ℕ) → Low (verdict s)
 unfolding verdict

@@ -98,5 +98,5 @@ pub record WriteCall : Type 0 where
 unfoldable pub write-numbers : writer.WriteCall → WriteCall
 write-numbers c = record { answer = written (c .answer); out = c .out }
 
-unfoldable pub write-call : (file : List ℕ) (amounts : List ℤ) (presence out : List ℕ) → WriteCall
-write-call file amounts presence out = write-numbers (writer.write-call file amounts presence out)
+unfoldable pub write-call : (file : List ℕ) (amounts : List ℤ) (presence labels out : List ℕ) → WriteCall
+write-call file amounts presence labels out = write-numbers (writer.write-call file amounts presence labels out)

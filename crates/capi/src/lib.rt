@@ -128,17 +128,18 @@ pub extern "C" fn kagyurma_load(
     }
 }
 
-// Writes the book in a file with the cells of lent memory for its own.
+// Writes the book in a file with the cells and labels of lent memory for its own.
 #[no_mangle]
 pub extern "C" fn kagyurma_write(
     file: &[u8],
     amounts: &[i32],
     presence: &[u64],
+    labels: &[u64],
     out: &mut [u8],
 ) -> Answered
-    ensures { λ r. ⌜ record { answer = r; out = now (out .exit) } ≡ write-call (now (file .entry)) (now (amounts .entry)) (now (presence .entry)) (now (out .entry)) ⌝ }
+    ensures { λ r. ⌜ record { answer = r; out = now (out .exit) } ≡ write-call (now (file .entry)) (now (amounts .entry)) (now (presence .entry)) (now (labels .entry)) (now (out .entry)) ⌝ }
 {
-    match writer::write(file, amounts, presence, out) {
+    match writer::write(file, amounts, presence, labels, out) {
         writer::Written::Refused(number, index) => told(number, index, 0),
         writer::Written::Wrote(bytes) => told(0, 0, bytes),
     }

@@ -1,6 +1,7 @@
 // What the programs that read cases and print a line for each have in common: reading, numbers drawn from a seed, digests, and
 // printing.
-ghost use Prim.Native.Nat.{_<_};
+ghost use Prim.Native.Nat.{_+_, _*_, _≤_, _<_};
+ghost use lib.ListN.{length};
 
 // Reads from standard input until all bytes are filled; answers whether there were enough.
 pub fn read(bytes: &mut [u8]) -> bool {
@@ -48,6 +49,62 @@ pub fn draw_words(words: &mut [u64], seed: u32) -> u32 {
         at += 1;
     }
     last
+}
+
+// Makes a label empty.
+fn clear_label(labels: &mut [u64], place: usize)
+    requires { ⌜ 8 * place + 8 ≤ length (now labels) ⌝ }
+{
+    let mut word: usize = 0;
+    while word < 8 {
+        labels[8 * place + word] = 0;
+        word += 1;
+    }
+}
+
+// Sets one place in the label of another.
+fn join_place(labels: &mut [u64], place: usize, member: usize)
+    requires { ⌜ (8 * place + 8 ≤ length (now labels)) × (member < 512) ⌝ }
+{
+    let at = 8 * place + member / 64;
+    labels[at] = (1u64 << (member % 64)) | labels[at];
+}
+
+// Draws what becomes of a label; answers the last number drawn. Half of them stay; others become empty, their own place alone, or have a
+// place more.
+fn draw_label(labels: &mut [u64], place: usize, seed: u32) -> u32
+    requires { ⌜ 8 * place + 8 ≤ length (now labels) ⌝ }
+{
+    let last = drawn(seed);
+    let choice = last / 65536 % 8;
+    if choice < 4 {
+        return last;
+    }
+    if choice < 6 {
+        clear_label(labels, place);
+        return last;
+    }
+    if choice == 7 {
+        let more = drawn(last);
+        join_place(labels, place, (more / 65536 % 512) as usize);
+        return more;
+    }
+    if place < 512 {
+        clear_label(labels, place);
+        join_place(labels, place, place);
+    }
+    last
+}
+
+// Draws what becomes of each label.
+pub fn draw_labels(labels: &mut [u64], seed: u32) {
+    let places = labels.len() / 8;
+    let mut last = seed;
+    let mut place: usize = 0;
+    while place < places {
+        last = draw_label(labels, place, last);
+        place += 1;
+    }
 }
 
 // Draws bytes, of one number each, from its middle.

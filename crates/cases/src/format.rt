@@ -1,4 +1,4 @@
-// A case for the loader and the writer. The cells to write are drawn from the seed. Its line: the loader's number and index (0 0
+// A case for the loader and the writer. The cells to write are drawn from the seed, and by the task their labels too. Its line: the loader's number and index (0 0
 // if it accepted); digests of amounts, presence, labels and rights; the writer's number and index (0 and the length if it
 // wrote); the digest of the output.
 
@@ -50,9 +50,9 @@ fn load(file: &[u8], amounts: &mut [i32], presence: &mut [u64], labels: &mut [u6
     case_lines::print(rights as usize);
 }
 
-// Writes the file with these cells; prints the answer and the digest of the output.
-fn write(file: &[u8], amounts: &[i32], presence: &[u64], out: &mut [u8]) {
-    match writer::write(file, amounts, presence, out) {
+// Writes the file with these cells and labels; prints the answer and the digest of the output.
+fn write(file: &[u8], amounts: &[i32], presence: &[u64], labels: &[u64], out: &mut [u8]) {
+    match writer::write(file, amounts, presence, labels, out) {
         writer::Written::Wrote(length) => {
             io::write_all(1, b"0 ");
             case_lines::print(length);
@@ -65,13 +65,20 @@ fn write(file: &[u8], amounts: &[i32], presence: &[u64], out: &mut [u8]) {
     case_lines::print_last(out);
 }
 
-// Draws the cells to write; at seed 0 they stay as they are.
-fn draw(amounts: &mut [i32], presence: &mut [u64], seed: u32) {
+// Draws the cells to write, and the labels by the task: 2 draws every word, 3 some labels; at seed 0 all stays as it is.
+fn draw(task: usize, amounts: &mut [i32], presence: &mut [u64], labels: &mut [u64], seed: u32) {
     if seed == 0 {
         return;
     }
-    let last = case_lines::draw_amounts(amounts, seed);
-    case_lines::draw_words(presence, last);
+    let after_amounts = case_lines::draw_amounts(amounts, seed);
+    let after_presence = case_lines::draw_words(presence, after_amounts);
+    match task {
+        2 => {
+            case_lines::draw_words(labels, after_presence);
+        }
+        3 => case_lines::draw_labels(labels, after_presence),
+        _ => {}
+    }
 }
 
 // Makes every amount this one.
@@ -111,6 +118,7 @@ fn fill(amounts: &mut [i32], presence: &mut [u64], labels: &mut [u64], out: &mut
 
 // Does a case and prints its line.
 pub fn case(
+    task: usize,
     file: &[u8],
     amounts: &mut [i32],
     presence: &mut [u64],
@@ -120,6 +128,6 @@ pub fn case(
 ) {
     fill(amounts, presence, labels, out);
     load(file, amounts, presence, labels);
-    draw(amounts, presence, seed);
-    write(file, amounts, presence, out);
+    draw(task, amounts, presence, labels, seed);
+    write(file, amounts, presence, labels, out);
 }

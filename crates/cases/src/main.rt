@@ -3,7 +3,7 @@
 //
 // A case is a header of 24 bytes and a file. The header, lowest byte first: the file's length, the budget and the length of the
 // lent bytes (4 bytes each), the lengths of the lent amounts, presence and labels (2 each), the task (2), and a seed (4). The
-// task is 0 to run the file, and otherwise to load it and write it.
+// task is 0 to run the file, and otherwise to load it and write it: with 2 and 3 the labels to write are drawn too.
 ghost use mathlib.Core.Bool.{true};
 ghost use mathlib.Core.Path.{_≡_};
 ghost use lib.ListN.{length};
@@ -29,7 +29,7 @@ fn case(
     if task == 0 {
         run::case(file, budget, amounts, presence, labels, bytes, seed);
     } else {
-        format::case(file, amounts, presence, labels, bytes, seed);
+        format::case(task, file, amounts, presence, labels, bytes, seed);
     }
 }
 

@@ -1,4 +1,4 @@
--- Demand 3, about two whole calls, from what two runs of one script show a group (TwoRuns.antt). Assumes nothing.
+-- Demand 3, about two whole calls and any set that holds the reach, from what two runs of one script show a group (TwoRuns.antt). Assumes nothing.
 use mathlib.Core.Path.{_≡_, refl, sym, ap, _∙_, subst}
 use mathlib.Core.List.{List, [], map}
 use mathlib.Core.Bool.{true, false≢true}
@@ -7,6 +7,8 @@ use Prim.Native.Nat.{ℕ, _/_, _≤_, _<_}
 use native.Mathlib.Decide.{decLt}
 use native.Mathlib.Omega.{arith}
 use lib.ListN.{length}
+use Rattle.places.specs.Sets.{Within}
+use Rattle.places.proofs.Sets.{within-refl, within-trans}
 use Rattle.book.specs.Records.{Book, SameScripts}
 use Rattle.book.specs.Layout.{decode}
 use Rattle.book.specs.declared.Verdict.{Verdict}
@@ -16,7 +18,7 @@ use Rattle.monitor.specs.Run.{Out, done, stop}
 use Rattle.monitor.specs.Rules.{monitored, run}
 use Rattle.monitor.specs.Call.{Memory, record-bytes, script, start-cells, start-rights, start-state, run-book, call-verdict, memory-after, result-of, answered, call}
 use Rattle.claims.specs.TwoBooks.{Group, accepted, finished, Begins, reach, InsideEither, SameInside, DifferOutside, cells-in}
-use Rattle.claims.specs.Claims.{LearnsNothing, Demand3}
+use Rattle.claims.specs.Claims.{LearnsNothing, Demand3, Demand3Within}
 use Rattle.claims.proofs.Views.{records, end, is-done, seen-of, Begun}
 use Rattle.claims.proofs.Steps.{Any}
 use Rattle.monitor.proofs.Memory.{Eight, cells-kept}
@@ -83,10 +85,10 @@ learns g R budget budget' m m' {o} {o'} f f' a =
         rw (left-cells budget m o (fine-end f .cells) q h, left-cells budget' m' o' (fine-end f' .cells) q h) (a .cells d d' q)
 
 -- books with the same records but for their cells have one script
-one-script : {b b' : Book} → SameScripts b b' → script b ≡ script b'
+pub one-script : {b b' : Book} → SameScripts b b' → script b ≡ script b'
 unfolding script
 one-script d = λ i.
-    record { cells = []; regions = d .regions i; rights = d .rights i; nodes = d .nodes i; programs = d .programs i; triggers = d .triggers i }
+    record { cells = []; regions = d .regions i; rights = d .rights i; nodes = d .nodes i; programs = d .programs i; triggers = d .triggers i; labels = [] }
 
 -- cells that are the same inside R, and those beyond the 512 places
 all-same : {R : Label} (b b' : Book) → SameInside R (start-cells b) (start-cells b')
@@ -99,30 +101,35 @@ all-same b b' d q h = go (decLt q 512)
         let l : 512 ≤ q = omega arith in
         start-beyond b q l ∙ sym (start-beyond b' q l)
 
-runs-agree : (g : Group) (file file' : List ℕ) (budget budget' : ℕ) (m m' : Memory)
-    → DifferOutside (reach g file (result-of budget m (ran file budget m))) file file'
-    → Agree g (reach g file (result-of budget m (ran file budget m))) (ran file budget m) (ran file' budget' m')
+runs-agree : (g : Group) (R : Label) (file file' : List ℕ) (budget budget' : ℕ) (m m' : Memory)
+    → Within (reach g file (result-of budget m (ran file budget m))) R → DifferOutside R file file'
+    → Agree g R (ran file budget m) (ran file' budget' m')
 unfolding run-book start-state start-rights
-runs-agree g file file' budget budget' m m' d =
+runs-agree g R file file' budget budget' m m' h d =
     let b : Book = decode file in
     let b' : Book = decode file' in
     let o = ran file budget m in
     let s = start-state b budget (length (m .trace) / 8) in
     let s' = start-state b' budget' (length (m' .trace) / 8) in
-    subst (λ c. Agree g (reach g file (result-of budget m o)) o (run c monitored budget' s')) (one-script (d .scripts))
-    (two-runs (script b) g (reach g file (result-of budget m o)) s s' budget budget'
+    subst (λ c. Agree g R o (run c monitored budget' s')) (one-script (d .scripts))
+    (two-runs (script b) g R s s' budget budget'
     (sym (script-start b) ∙ ap start-rights (one-script (d .scripts)) ∙ script-start b')
     refl
-    (rw (script-public b) (reach-public g file budget m o))
-    (reach-read g file budget m o)
+    (rw (script-public b) (within-trans (reach-public g file budget m o) h))
+    (λ u e. within-trans (reach-read g file budget m o u e) h)
     (all-same b b' (d .cells))
-    (reach-gifts g file budget m o))
+    (within-trans (reach-gifts g file budget m o) h))
+
+pub demand3-within : Demand3Within
+demand3-within g R file file' budget budget' m m' a a' h d =
+    let e = accepted-is file budget m a in
+    rw (e, accepted-is file' budget' m' a')
+    (learns g R budget budget' m m'
+    (fine-run true (decode file) budget (length (m .trace) / 8))
+    (fine-run true (decode file') budget' (length (m' .trace) / 8))
+    (runs-agree g R file file' budget budget' m m' (rw e at h) d))
 
 pub demand3 : Demand3
 demand3 g file file' budget budget' m m' a a' d =
-    let e = accepted-is file budget m a in
-    rw (e, accepted-is file' budget' m' a')
-    (learns g (reach g file (result-of budget m (ran file budget m))) budget budget' m m'
-    (fine-run true (decode file) budget (length (m .trace) / 8))
-    (fine-run true (decode file') budget' (length (m' .trace) / 8))
-    (runs-agree g file file' budget budget' m m' (rw e at d)))
+    let R = reach g file (call true file budget m) in
+    demand3-within g R file file' budget budget' m m' a a' (within-refl R) d

@@ -1,20 +1,19 @@
--- Cells that are the same inside a reach: at the start of two books by one computed test over the 512 places, since each cell's label is
--- its own place alone; and of cells that are written down, or that lent memory holds. Assumes nothing.
+-- Cells that are the same inside a reach: at the start of two books by one computed test over the 512 places; and of cells that are written down, or that lent memory holds. Assumes nothing.
 use mathlib.Core.Path.{_≡_, refl, sym, ap, _∙_}
 use mathlib.Core.List.{List}
 use mathlib.Core.Bool.{Bool, true, false, _&&_, _||_, not, cond, false≢true}
 use mathlib.Core.Logic.{inl, ⊎-elim}
 use mathlib.Core.Option.{Option, none, some}
-use Prim.Native.Nat.{ℕ, zero, suc, _*_, _≤_, _<_}
+use Prim.Native.Nat.{ℕ, zero, suc, _≤_, _<_}
 use native.Mathlib.Nat.{not-suc-le-zero, le-of-suc-le-suc, eq-or-lt-of-le}
 use native.Mathlib.Omega.{arith}
 use lib.Dec.{eqb}
 use lib.IntN.{ℤ, pos, negsuc}
 use lib.ListN.{length}
-use borrow.Author.Tests.{eqb-true, eq-eqb, lt-ltb}
-use Rattle.places.specs.Sets.{within, Within, has, single}
-use Rattle.places.proofs.Sets.{has-single, within-members, words-set-of}
-use Rattle.book.specs.Records.{CellRecord, Book, SameScripts}
+use borrow.Author.Tests.{eqb-true, eq-eqb}
+use Rattle.places.specs.Sets.{same-words, within, Within}
+use Rattle.places.proofs.SameWords.{same-equal}
+use Rattle.book.specs.Records.{Book, SameScripts}
 use Rattle.book.specs.Layout.{decode}
 use Rattle.book.specs.Start.{amount-at}
 use Rattle.monitor.specs.Labelled.{Label, Lab, lit}
@@ -23,7 +22,7 @@ use Rattle.monitor.specs.Call.{script, start-cells}
 use Rattle.claims.specs.TwoBooks.{InsideEither, SameInside, DifferOutside, cells-in}
 use Rattle.claims.specs.Witnesses.{only, memory-of}
 use Rattle.monitor.proofs.Memory.{Eight, cells-kept}
-use Rattle.monitor.proofs.Start.{start-cell, start-is, start-label}
+use Rattle.monitor.proofs.Start.{label-quick, label-quick-is, start-cell, start-is, start-label}
 
 -- ---- tests
 
@@ -36,7 +35,7 @@ both-hold : (x y : Bool) → x && y ≡ true → (x ≡ true) × (y ≡ true)
 both-hold true y h = (refl, h)
 both-hold false y h = absurd (false≢true h)
 
-below-at : (f : ℕ → Bool) (n q : ℕ) → below f n ≡ true → q < n → f q ≡ true
+pub below-at : (f : ℕ → Bool) (n q : ℕ) → below f n ≡ true → q < n → f q ≡ true
 unfolding below
 below-at f zero q h l = absurd (not-suc-le-zero l)
 below-at f (suc n) q h l =
@@ -65,32 +64,46 @@ same-amount-is (some (negsuc m)) (some (negsuc n)) h = ap (λ k. some (negsuc k)
 
 -- ---- two books at the start
 
--- the records of two books give the same at every place of a set
-unfoldable pub alike : Label → List CellRecord → List CellRecord → Bool
-alike reach cs cs' = below (λ q. not (has reach q) || same-amount (amount-at cs q) (amount-at cs' q)) 512
+-- the label of one of two books lies inside
+unfoldable pub inside-either : Label → Book → Book → ℕ → Bool
+inside-either reach b b' q = within (label-quick (b .labels) q) reach || within (label-quick (b' .labels) q) reach
 
--- a place alone is within a set that has it
-own-place : (reach : Label) (q : ℕ) → q < 512 → Within (single 8 q) reach → has reach q ≡ true
-unfolding single
-own-place reach q l h =
-    within-members (words-set-of 8 (λ p. eqb p q)) .0 h q (has-single 8 q q ∙ rw (lt-ltb q (64 * 8) l, eq-eqb q q refl))
+-- the records of two books give the same at every place whose label in one of them lies inside a set
+unfoldable pub alike : Label → Book → Book → Bool
+alike reach b b' =
+    below (λ q. not (inside-either reach b b' q)
+    || (same-amount (amount-at (b .cells) q) (amount-at (b' .cells) q) && same-words (label-quick (b .labels) q) (label-quick (b' .labels) q))) 512
 
-starts-alike : (reach : Label) (b b' : Book) → alike reach (b .cells) (b' .cells) ≡ true → SameInside reach (start-cells b) (start-cells b')
-unfolding alike start-cell
-starts-alike reach b b' h = record { same = λ q l i. same q l (⊎-elim (inside b q l) (inside b' q l) i) }
+starts-alike : (reach : Label) (b b' : Book) → alike reach b b' ≡ true → SameInside reach (start-cells b) (start-cells b')
+unfolding alike inside-either start-cell
+starts-alike reach b b' h = record { same = λ q l i. same q l (one q l i) }
   where
-    inside : (c : Book) (q : ℕ) → q < 512 → Within (start-cells c q .lab) reach → has reach q ≡ true
-    inside c q l w = own-place reach q l (rw (start-label c q l) at w)
+    first : (c : Book) (q : ℕ) → q < 512 → Within (start-cells c q .lab) reach → within (label-quick (c .labels) q) reach ≡ true
+    first c q l w = rw (start-label c q l, label-quick-is (c .labels) q l) at (w .holds)
+
+    or-true-left : (x y : Bool) → x ≡ true → x || y ≡ true
+    or-true-left x y e = rw e
+
+    or-true-right : (x y : Bool) → y ≡ true → x || y ≡ true
+    or-true-right true y e = refl
+    or-true-right false y e = e
+
+    one : (q : ℕ) → q < 512 → InsideEither reach (start-cells b q) (start-cells b' q) → inside-either reach b b' q ≡ true
+    one q l i =
+        let x : Bool = within (label-quick (b .labels) q) reach in
+        let y : Bool = within (label-quick (b' .labels) q) reach in
+        ⊎-elim (λ w. or-true-left x y (first b q l w)) (λ w. or-true-right x y (first b' q l w)) i
 
     tested : (x y : Bool) → x ≡ true → not x || y ≡ true → y ≡ true
     tested true y e t = t
     tested false y e t = absurd (false≢true e)
 
-    same : (q : ℕ) → q < 512 → has reach q ≡ true → start-cells b q ≡ start-cells b' q
+    same : (q : ℕ) → q < 512 → inside-either reach b b' q ≡ true → start-cells b q ≡ start-cells b' q
     same q l e =
-        let amounts : amount-at (b .cells) q ≡ amount-at (b' .cells) q =
-        same-amount-is _ _ (tested (has reach q) _ e (below-at _ 512 q h l)) in
-        rw (start-is b, start-is b', amounts)
+        let each = both-hold _ _ (tested (inside-either reach b b' q) _ e (below-at _ 512 q h l)) in
+        let amounts : amount-at (b .cells) q ≡ amount-at (b' .cells) q = same-amount-is _ _ (each .0) in
+        let labels : label-quick (b .labels) q ≡ label-quick (b' .labels) q = same-equal _ _ (each .1) in
+        rw (start-is b, start-is b', amounts, labels)
 
 same-scripts : {b b' : Book} → script b ≡ script b' → SameScripts b b'
 unfolding script
@@ -104,10 +117,10 @@ same-scripts e =
     }
 
 pub differ-outside : (reach : Label) (file file' : List ℕ) → script (decode file) ≡ script (decode file')
-    → alike reach (decode file .cells) (decode file' .cells) ≡ true → DifferOutside reach file file'
+    → alike reach (decode file) (decode file') ≡ true → DifferOutside reach file file'
 differ-outside reach file file' e h = record { scripts = same-scripts e; cells = starts-alike reach (decode file) (decode file') h }
 
--- a cell whose place is in the reach is the same in both
+-- a cell whose label lies inside the reach is the same in both
 pub same-start : {reach : Label} {file file' : List ℕ} → DifferOutside reach file file'
     → (q : ℕ) → q < 512 → Within (start-cell (decode file) q .lab) reach → start-cell (decode file) q ≡ start-cell (decode file') q
 same-start {reach} {file} {file'} d q l w = rw (start-is (decode file), start-is (decode file')) at (d .cells .same q l (inl (rw (← start-is (decode file)) at w)))

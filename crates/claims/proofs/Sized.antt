@@ -12,8 +12,8 @@ use lib.Dec.{eqb, ltb}
 use lib.Bits.{bitOr}
 use lib.IntN.{ℤ, pos}
 use lib.ListN.{length, getD, length-replicate}
-use Rattle.places.specs.Sets.{Words, empty, single, union, within}
-use Rattle.places.proofs.Sets.{length-word-by-word, length-single, words-union, words-set-of}
+use Rattle.places.specs.Sets.{Words, empty, union, within}
+use Rattle.places.proofs.Sets.{length-word-by-word, words-union, words-set-of}
 use Rattle.places.proofs.Shapes.{set-of-none}
 use Rattle.regions.specs.Regions.{region-set}
 use Rattle.regions.proofs.Regions.{length-region}
@@ -21,6 +21,7 @@ use Rattle.book.specs.Records.{NodeRecord, Book, region-of}
 use Rattle.book.specs.Kinds.{between}
 use Rattle.book.specs.Refusals.{no-region, is-zero, node-at}
 use Rattle.book.proofs.Chains.{both}
+use Rattle.book.proofs.Remembered.{length-remembered, words-remembered}
 use Rattle.monitor.specs.Labelled.{Label, bottom, Lab, lit, lift, lift2, via, under}
 use Rattle.monitor.specs.Run.{Cell, Rights, State, Rec, said, changed, Halt, about-labels, Out, done, stop, M, after, next, _>>=_, ret, look, each, when, Test, plainly, inside, guard, need, commit, update, with-vars, pay, set-var, set-cell, tell, sixteen, restore, own, taken-back, undoing}
 use Rattle.monitor.specs.Syntax.{Exp, const, var, add, minus, equal, less, query, Cmd, skip, assign, seq, branch, while, put, clear, out, grant, revoke, raise, cmd-of}
@@ -435,15 +436,15 @@ module _ (b : Book) (mode : Mode) where
 -- ---- a book's run
 
 sized-start : (b : Book) (budget room : ℕ) → Sized (start-state b budget room)
-unfolding start-state lit single
+unfolding start-state lit
 sized-start b budget room =
     record { cells = record { words = whole }; short = λ q. few q (decLt q 512); vars = short-sixteen _ (small bottom-words) }
   where
     whole : (q : ℕ) → q < 512 → length (start-cells b q .lab) ≡ 8
-    whole q h = rw (start-label b q h) (length-single 8 q)
+    whole q h = rw (start-label b q h) (length-remembered (b .labels) q)
 
     few : (q : ℕ) → Dec (q < 512) → Short (start-cells b q)
-    few q (yes h) = rw (start-label b q h) (record { few = omega (arith, length-single 8 q); words = words-set-of 8 (λ p. eqb p q) })
+    few q (yes h) = rw (start-label b q h) (record { few = omega (arith, length-remembered (b .labels) q); words = words-remembered (b .labels) q })
     few q (no g) =
         let h : 512 ≤ q = omega arith in
         rw (start-beyond b q h) (small-empty 0 zero-le)

@@ -16,16 +16,16 @@ use Rattle.book.specs.Refusals.{no-region, no-right, no-program}
 use Rattle.book.specs.Tables.{w-file}
 use Rattle.monitor.specs.Labelled.{Label, Lab}
 use Rattle.monitor.specs.Run.{Cell}
-use Rattle.labels.specs.Labels.{own-labels}
+use Rattle.labels.specs.Labels.{labels-by}
 use Rattle.places.specs.Sets.{single}
-use Rattle.book.specs.Start.{start-amounts, start-presence}
+use Rattle.book.specs.Start.{start-amounts, start-presence, remembered, start-labels}
 use Rattle.monitor.specs.Call.{Memory, Result, cells-of, amounts-in, presence-in, labels-in, script, start-cells, start-state, run-book, call}
 use Rattle.monitor.specs.Tables.{Shown, Row, told, lent, shown}
 use Rattle.claims.specs.TwoBooks.{Group, accepted, group-trace, Begins, reach, InsideEither, SameInside, cells-in}
 use Rattle.claims.specs.Undone.{standing-run}
 use Rattle.claims.specs.Witnesses.{members, Reaching, reached, reaches, Reaches, Pair, result-of-row, Meets, both-finish, first-stops, second-stops, both-stop, Pairs, owner-1, Exclusions, Sides, joined-bytes, memory-of, over-at, over, broken, Leaks, NoLeaks, Terms, Undoes}
 use Rattle.claims.proofs.Calls.{call-quick, call-is, left-quick, left-is}
-use Rattle.claims.proofs.Inside.{below, same-amount, alike, differ-outside, same-start, only-same, only-outside, only-beyond, from-memory, to-memory}
+use Rattle.claims.proofs.Inside.{below, same-amount, inside-either, alike, differ-outside, same-start, only-same, only-outside, only-beyond, from-memory, to-memory}
 
 -- two things that are told apart by a number are not the same
 unlike : {A : Type 0} (f : A → ℕ) {x y : A} → x ≡ y → eqb (f x) (f y) ≡ false → ⊥
@@ -76,7 +76,7 @@ left-cell z n row q = left-quick (row .of) (row .budget) (lent z n (row .trace))
 -- a pair is met if it is by the calls that compute quickly
 module _ (p : Pair) (z z' : ℤ) (n n' : ℕ) where
   meets : script (decode (p .first .of)) ≡ script (decode (p .second .of))
-      → alike (p .reach) (decode (p .first .of) .cells) (decode (p .second .of) .cells) ≡ true
+      → alike (p .reach) (decode (p .first .of)) (decode (p .second .of)) ≡ true
       → calls call-quick p z z' n n' ≡ expected p
       → p .lengths ≡ (length (p .first .of), length (p .second .of))
       → p .place < 512
@@ -103,7 +103,7 @@ module _ (p : Pair) (z z' : ℤ) (n n' : ℕ) where
       }
 
 pub pairs-met : Pairs
-unfolding left-quick members below same-amount alike outcome expected calls left-cell both-finish first-stops second-stops both-stop
+unfolding left-quick members below same-amount inside-either alike outcome expected calls left-cell both-finish first-stops second-stops both-stop
 pairs-met =
     record {
       finish = λ z z' n n'. meets both-finish z z' n n' refl refl refl refl (omega arith) refl;
@@ -237,5 +237,5 @@ terms = record {
 -- ---- what a stop takes back
 
 pub undoes : Undoes
-unfolding left-quick cells-of amounts-in presence-in labels-in start-cells start-state run-book start-amounts start-presence own-labels single standing-run
+unfolding left-quick cells-of amounts-in presence-in labels-in start-cells start-state run-book start-amounts start-presence labels-by remembered start-labels single standing-run
 undoes = record { stands = λ m. refl; undone = λ m. refl; answers = λ m. (refl, refl) }

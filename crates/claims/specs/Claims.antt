@@ -4,7 +4,9 @@ use mathlib.Core.List.{List}
 use mathlib.Core.Logic.{_⊎_}
 use mathlib.Core.Bool.{true, false}
 use Prim.Native.Nat.{ℕ, _≤_}
+use Rattle.places.specs.Sets.{Within}
 use Rattle.book.specs.Records.{Book}
+use Rattle.monitor.specs.Labelled.{Label}
 use Rattle.monitor.specs.Run.{State}
 use Rattle.monitor.specs.Rules.{Mode, run}
 use Rattle.monitor.specs.Call.{Memory, Result, call}
@@ -37,3 +39,11 @@ Demand3 = (g : Group) (file file' : List ℕ) (budget budget' : ℕ) (m m' : Mem
     accepted (call true file budget m .answer) ≡ true → accepted (call true file' budget' m' .answer) ≡ true →
     DifferOutside (reach g file (call true file budget m)) file file' →
     LearnsNothing g (reach g file (call true file budget m)) (call true file budget m) (call true file' budget' m')
+
+-- The same for any set that holds the reach: books that differ only outside the set tell the group nothing of what is outside it. Chains of
+-- days need it, since the reach of a chain gathers that of many days and so holds more than the reach of any one. With the reach itself it is Demand3.
+abbrev pub Demand3Within : Type 0
+Demand3Within = (g : Group) (R : Label) (file file' : List ℕ) (budget budget' : ℕ) (m m' : Memory) →
+    accepted (call true file budget m .answer) ≡ true → accepted (call true file' budget' m' .answer) ≡ true →
+    Within (reach g file (call true file budget m)) R → DifferOutside R file file' →
+    LearnsNothing g R (call true file budget m) (call true file' budget' m')

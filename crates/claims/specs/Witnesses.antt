@@ -30,7 +30,7 @@ members (v ∷ vs) u = eqb u v || members vs u
 -- the bytes of a book with these records
 abbrev pub file-of : List CellRecord → List RegionRecord → List RightRecord → List NodeRecord → List ProgramRecord → List TriggerRecord → List ℕ
 file-of cells regions rights nodes programs triggers =
-    encode (record { cells = cells; regions = regions; rights = rights; nodes = nodes; programs = programs; triggers = triggers })
+    encode (record { cells = cells; regions = regions; rights = rights; nodes = nodes; programs = programs; triggers = triggers; labels = [] })
 
 -- the places of W's region 0, which is owner 1 of table 0, of its region 1, which is owner 2, and of both
 abbrev pub owner-1 : Label
@@ -204,7 +204,7 @@ both-finish = record {
   group = 1 ∷ [];
   first = run-list (with-secret to-each 8) (shows 0 0 19 16 (told 250 ∷ told-2 132 3 ∷ []));
   second = record { of = without-secret to-each 8; budget = 19; trace = 16; shows = shows 0 0 19 16 (told 250 ∷ told-2 0 0 ∷ []) };
-  lengths = (224, 216);
+  lengths = (228, 220);
   reach = owner-1;
   sees = (told 250 ∷ [], told 250 ∷ []);
   place = 16;
@@ -217,7 +217,7 @@ first-stops = record {
   group = 1 ∷ [];
   first = run-list (with-secret between-outs 11) (shows 25 7 22 8 (told 250 ∷ []));
   second = run-list (without-secret between-outs 11) (shows 0 0 30 16 (told 250 ∷ told 250 ∷ []));
-  lengths = (272, 264);
+  lengths = (276, 268);
   reach = owner-1;
   sees = (told 250 ∷ [], told 250 ∷ told 250 ∷ []);
   place = 16;
@@ -230,7 +230,7 @@ second-stops = record {
   group = 1 ∷ [];
   first = run-list (without-secret between-outs 11) (shows 0 0 30 16 (told 250 ∷ told 250 ∷ []));
   second = record { of = with-secret between-outs 11; budget = 100; trace = 8; shows = shows 25 7 22 8 (told 250 ∷ []) };
-  lengths = (264, 272);
+  lengths = (268, 276);
   reach = owner-1;
   sees = (told 250 ∷ told 250 ∷ [], told 250 ∷ []);
   place = 16;
@@ -243,7 +243,7 @@ both-stop = record {
   group = 1 ∷ [];
   first = run-list (with-secret either-way 10) (shows 25 7 21 8 (told 250 ∷ []));
   second = run-list (without-secret either-way 10) (shows 27 8 21 8 (told 250 ∷ []));
-  lengths = (256, 248);
+  lengths = (260, 252);
   reach = owner-1;
   sees = (told 250 ∷ [], told 250 ∷ []);
   place = 16;
@@ -407,6 +407,7 @@ failing-book = record {
   nodes = constants ++ (constant (pos 8) ∷ put 0 0 0 2 ∷ put 0 1 0 3 ∷ put 0 4 0 0 ∷ both 6 7 ∷ []);
   programs = program 0 5 ∷ [];
   triggers = trigger 0 1 0 8 ∷ [];
+  labels = [];
 }
 
 -- what a run of it leaves at places 0 and 8: the amounts, and of presence and of their labels the first words

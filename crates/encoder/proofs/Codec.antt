@@ -1,16 +1,16 @@
 -- Records and their bytes: what is read is written as it stood, and what is written is read back. Stated once for a format, and
--- for the sections of any format; then the six formats. Assumes nothing.
+-- for the sections of any format; then the seven formats. Assumes nothing.
 use mathlib.Core.Path.{_≡_, refl, sym, ap, ap₂, _∙_}
 use mathlib.Core.List.{List, [], _∷_, _++_, append-assoc}
-use Prim.Native.Nat.{ℕ, zero, suc, _+_, _*_, _/_, _%_, _≤_, _<_}
+use Prim.Native.Nat.{ℕ, zero, suc, _+_, _*_, _/_, _%_, _^_, _≤_, _<_}
 use native.Mathlib.Nat.{add-zero, add-assoc}
 use native.Mathlib.Omega.{arith}
 use lib.ListN.{length, take, drop, length-append, length-drop}
 use lib.Seq.{drop-cons, getD-drop, drop-at, drop-drop, take-add}
 use mir.Syntax.{w32}
 use mir.ValLaws.{ofZ-toZ}
-use Rattle.book.specs.Bytes.{byte, Bytes, signed32, bits32, two, three, four}
-use Rattle.book.specs.Records.{Format, records, section-bytes, cells-format, regions-format, rights-format, nodes-format, programs-format, triggers-format}
+use Rattle.book.specs.Bytes.{byte, Bytes, le32, le64, signed32, bits32, two, three, four, eight}
+use Rattle.book.specs.Records.{Format, records, section-bytes, cells-format, regions-format, rights-format, nodes-format, programs-format, triggers-format, labels-format}
 
 -- ---- numbers and their bytes
 
@@ -57,6 +57,35 @@ signed-of : {a b c d : ℕ} → a < 256 → b < 256 → c < 256 → d < 256
 signed-of {a} {b} {c} {d} h l k m =
     let fits : a + 256 * b + 65536 * (c + 256 * d) < 4294967296 = omega arith in
     ap four (ofZ-toZ w32 _ (record { fits = fits })) ∙ four-of h l k m
+
+-- the lower four bytes of a number are those of its lower 32 bits
+four-wraps : (x y : ℕ) → four (x + 4294967296 * y) ≡ four x
+four-wraps x y =
+    let b : (x + 4294967296 * y) / 256 ≡ x / 256 + 16777216 * y = omega arith in
+    let c : (x + 4294967296 * y) / 65536 ≡ x / 65536 + 65536 * y = omega arith in
+    let d : (x + 4294967296 * y) / 16777216 ≡ x / 16777216 + 256 * y = omega arith in
+    let byte-0 : (x + 4294967296 * y) % 256 ≡ x % 256 = omega arith in
+    let byte-1 : (x / 256 + 16777216 * y) % 256 ≡ x / 256 % 256 = omega arith in
+    let byte-2 : (x / 65536 + 65536 * y) % 256 ≡ x / 65536 % 256 = omega arith in
+    let byte-3 : (x / 16777216 + 256 * y) % 256 ≡ x / 16777216 % 256 = omega arith in
+    λ i. byte-0 i ∷ (ap (λ (n : ℕ). n % 256) b ∙ byte-1) i ∷ (ap (λ (n : ℕ). n % 256) c ∙ byte-2) i ∷ (ap (λ (n : ℕ). n % 256) d ∙ byte-3) i ∷ []
+
+pub four-low : (n : ℕ) → four (n % 4294967296) ≡ four n
+four-low n =
+    let e : n % 4294967296 + 4294967296 * (n / 4294967296) ≡ n = omega arith in
+    sym (four-wraps (n % 4294967296) (n / 4294967296)) ∙ ap four e
+
+-- of two numbers of 32 bits, the lower first
+eight-of : (x y : ℕ) → x < 4294967296 → eight (x + 4294967296 * y) ≡ four x ++ four y
+eight-of x y h =
+    let high : (x + 4294967296 * y) / 4294967296 ≡ y = omega arith in
+    ap₂ (λ (a b : List ℕ). a ++ b) (four-wraps x y) (ap four high)
+
+pub eight-back : (n : ℕ) → n < 2 ^ 64 → le64 (eight n) 0 ≡ n
+eight-back n h =
+    let low : le32 (four n) 0 ≡ n % 4294967296 = ap (λ (l : List ℕ). le32 l 0) (sym (four-low n)) ∙ four-back (n % 4294967296) (omega arith) in
+    let high : le32 (four (n / 4294967296)) 0 ≡ n / 4294967296 = four-back (n / 4294967296) (omega arith) in
+    ap₂ (λ (x y : ℕ). x + 4294967296 * y) low high ∙ omega arith
 
 -- ---- a format
 
@@ -141,7 +170,7 @@ module _ {A : Type 0} {f : Format A} (codec : Codec f) where
       ap₂ (λ (x : A) (y : List A). x ∷ y) first
       (ap (records f (length rs) (at + f .size)) all ∙ section-back rs ks (p ++ w) q (at + f .size) l)
 
--- ---- the six formats
+-- ---- the seven formats
 
 pub cells-codec : Codec cells-format
 unfolding cells-format
@@ -200,4 +229,29 @@ triggers-codec = record {
   own = λ s rest h. rw (spread-is 8 0 s h);
   same = λ s b h.
       (λ i. byte s 0 ∷ byte s 1 ∷ byte s 2 ∷ byte s 3 ∷ (two-of (b .fits 4) (b .fits 5) i ++ two-of (b .fits 6) (b .fits 7) i)) ∙ sym (spread-is 8 0 s h);
+}
+
+-- eight bytes that were read as a word
+word-same : (s : List ℕ) → Bytes s → (i : ℕ)
+    → eight (le64 s i)
+    ≡ byte s i ∷ byte s (i + 1) ∷ byte s (i + 2) ∷ byte s (i + 2 + 1) ∷ byte s (i + 4) ∷ byte s (i + 4 + 1) ∷ byte s (i + 4 + 2) ∷ byte s (i + 4 + 2 + 1) ∷ []
+word-same s b i =
+    eight-of (le32 s i) (le32 s (i + 4)) (omega (arith, b .fits i, b .fits (i + 1), b .fits (i + 2), b .fits (i + 2 + 1)))
+    ∙ ap₂ (λ (x y : List ℕ). x ++ y) (four-same i) (four-same (i + 4))
+  where
+    four-same : (k : ℕ) → four (le32 s k) ≡ byte s k ∷ byte s (k + 1) ∷ byte s (k + 2) ∷ byte s (k + 2 + 1) ∷ []
+    four-same k = four-of (b .fits k) (b .fits (k + 1)) (b .fits (k + 2)) (b .fits (k + 2 + 1))
+
+pub labels-codec : Codec labels-format
+unfolding labels-format
+labels-codec = record {
+  width = λ r. refl;
+  moved = λ s at. simp (getD-drop, add-zero, add-assoc);
+  own = λ s rest h. rw (spread-is 66 0 s h);
+  same = λ s b h.
+      (λ i.
+      two-of (b .fits 0) (b .fits 1) i
+      ++ (word-same s b 2 i ++ word-same s b 10 i ++ word-same s b 18 i ++ word-same s b 26 i ++ word-same s b 34 i ++ word-same s b 42 i ++ word-same s b 50 i
+      ++ word-same s b 58 i))
+      ∙ sym (spread-is 66 0 s h);
 }

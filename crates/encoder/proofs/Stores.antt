@@ -1,12 +1,12 @@
 -- Output that is written part by part: `new` is stored from `at` on, and the other bytes stay. Assumes nothing.
 use mathlib.Core.Path.{_≡_, refl, sym, ap, ap₂, _∙_}
-use mathlib.Core.List.{List, [], _∷_, _++_, append-assoc}
+use mathlib.Core.List.{List, [], _∷_, _++_, append-assoc, append-nil}
 use Prim.Native.Nat.{ℕ, _+_, _≤_}
-use native.Mathlib.Nat.{zero-add, add-assoc}
+use native.Mathlib.Nat.{add-zero, add-assoc}
 use native.Mathlib.Numerals.{add-one, add-two, add-three}
 use native.Mathlib.Omega.{arith}
-use lib.ListN.{length, take, drop, set, length-append, length-drop}
-use lib.Seq.{take-at, drop-at, drop-drop, length-take-le, sets-eq}
+use lib.ListN.{length, take, drop, set, length-append, length-drop, take-append-drop}
+use lib.Seq.{take-at, take-append-le, drop-at, drop-drop, length-take-le, sets-eq}
 
 pub record Stored (old : List ℕ) (at : ℕ) (new out : List ℕ) : Type 0 where
   pub fits : at + length new ≤ length old
@@ -15,6 +15,10 @@ pub record Stored (old : List ℕ) (at : ℕ) (new out : List ℕ) : Type 0 wher
 -- as the contracts say it: new has n bytes
 pub stored : (old : List ℕ) (at : ℕ) (new out : List ℕ) (n : ℕ) → length new ≡ n → at + n ≤ length old → out ≡ take at old ++ new ++ drop (at + n) old → Stored old at new out
 stored old at new out n e h q = record { fits = omega arith; is = rw e q }
+
+-- nothing is stored
+pub stored-none : (old : List ℕ) (at : ℕ) → at ≤ length old → Stored old at [] old
+stored-none old at h = record { fits = omega arith; is = sym (rw (append-nil (take at old), add-zero at) (take-append-drop at old)) }
 
 front-length : {old new out : List ℕ} {at : ℕ} → Stored old at new out → length (take at old ++ new) ≡ at + length new
 front-length {old} {new} {out} {at} v = length-append (take at old) new ∙ omega (arith, length-take-le at old (omega (arith, v .fits)))
@@ -36,32 +40,55 @@ stored-behind {old} {u} {x} {w} {y} {at} {to} v z e =
       is = z .is ∙ ap₂ (λ (a b : List ℕ). a ++ w ++ b) front back ∙ ap (λ (l : List ℕ). l ++ drop (at + length (u ++ w)) old) (append-assoc (take at old) u w);
     }
 
--- ---- output from byte 0 on: the first `end` bytes are written
+-- a part is stored before another
+pub stored-before : {old w x u y : List ℕ} {at to : ℕ} → Stored old to w x → Stored x at u y → to ≡ at + length u → Stored old at (u ++ w) y
+stored-before {old} {w} {x} {u} {y} {at} {to} v z e =
+    let rest : List ℕ = drop (to + length w) old in
+    let kept : length (take to old) ≡ to = length-take-le to old (omega (arith, v .fits)) in
+    let was : x ≡ take to old ++ (w ++ rest) = v .is ∙ append-assoc (take to old) w rest in
+    let front : take at x ≡ take at old =
+    ap (take at) was
+    ∙ take-append-le at (take to old) (w ++ rest) (omega arith)
+    ∙ sym (take-append-le at (take to old) (drop to old) (omega arith))
+    ∙ ap (take at) (take-append-drop to old) in
+    let back : drop (at + length u) x ≡ w ++ drop (at + length (u ++ w)) old =
+    ap₂ drop (sym e) was
+    ∙ drop-at (take to old) (w ++ rest) to kept
+    ∙ ap (λ (n : ℕ). w ++ drop n old) (ap (λ (n : ℕ). n + length w) e ∙ add-assoc at (length u) (length w) ∙ ap (λ (n : ℕ). at + n) (sym (length-append u w))) in record {
+      fits = omega (arith, length-append u w, v .fits);
+      is =
+          z .is
+          ∙ ap₂ (λ (a b : List ℕ). a ++ u ++ b) front back
+          ∙ sym (append-assoc (take at old ++ u) w (drop (at + length (u ++ w)) old))
+          ∙ ap (λ (l : List ℕ). l ++ drop (at + length (u ++ w)) old) (append-assoc (take at old) u w);
+    }
 
-pub record Begun (old : List ℕ) (end : ℕ) (bytes out : List ℕ) : Type 0 where
-  pub end-is : end ≡ length bytes
-  pub bytes-are : Stored old 0 bytes out
+-- ---- output from byte `at` on, written up to byte `end`
 
-pub begun-none : (old : List ℕ) → Begun old 0 [] old
-begun-none old = record { end-is = refl; bytes-are = record { fits = omega arith; is = refl } }
+pub record Begun (old : List ℕ) (at end : ℕ) (bytes out : List ℕ) : Type 0 where
+  pub end-is : end ≡ at + length bytes
+  pub bytes-are : Stored old at bytes out
+
+pub begun-none : (old : List ℕ) (at : ℕ) → at ≤ length old → Begun old at at [] old
+begun-none old at h = record { end-is = omega arith; bytes-are = stored-none old at h }
 
 -- as the contracts say it
-pub begun : (old : List ℕ) (end : ℕ) (bytes out : List ℕ) → end ≡ length bytes → end ≤ length old → out ≡ bytes ++ drop end old → Begun old end bytes out
-begun old end bytes out e h q = record {
+pub begun : (old : List ℕ) (at end : ℕ) (bytes out : List ℕ) → end ≡ at + length bytes → end ≤ length old → out ≡ take at old ++ bytes ++ drop end old → Begun old at end bytes out
+begun old at end bytes out e h q = record {
   end-is = e;
-  bytes-are = record { fits = omega arith; is = q ∙ rw (e, zero-add) };
+  bytes-are = record { fits = omega arith; is = q ∙ rw e };
 }
 
-pub begun-is : {old bytes out : List ℕ} {end : ℕ} → Begun old end bytes out → (end ≡ length bytes) × (out ≡ bytes ++ drop end old)
-begun-is v = (v .end-is, v .bytes-are .is ∙ rw (v .end-is, zero-add))
+pub begun-is : {old bytes out : List ℕ} {at end : ℕ} → Begun old at end bytes out → (end ≡ at + length bytes) × (out ≡ take at old ++ bytes ++ drop end old)
+begun-is v = (v .end-is, v .bytes-are .is ∙ rw (v .end-is))
 
 -- a part of n bytes more
-pub begun-more : {old bytes out : List ℕ} {end : ℕ} → Begun old end bytes out → (new out′ : List ℕ) (n to : ℕ) → length new ≡ n → end + n ≡ to → to ≤ length old
-    → out′ ≡ take end out ++ new ++ drop (end + n) out → Begun old to (bytes ++ new) out′
-begun-more {old} {bytes} {out} {end} v new out′ n to e t h q =
+pub begun-more : {old bytes out : List ℕ} {at end : ℕ} → Begun old at end bytes out → (new out′ : List ℕ) (n to : ℕ) → length new ≡ n → end + n ≡ to → to ≤ length old
+    → out′ ≡ take end out ++ new ++ drop (end + n) out → Begun old at to (bytes ++ new) out′
+begun-more {old} {bytes} {out} {at} {end} v new out′ n to e t h q =
     let part : Stored out end new out′ = stored out end new out′ n e (omega (arith, same-length (v .bytes-are))) q in record {
-      end-is = sym t ∙ sym (length-append bytes new ∙ omega (arith, v .end-is));
-      bytes-are = stored-behind (v .bytes-are) part (v .end-is ∙ sym (zero-add _));
+      end-is = omega (arith, v .end-is, length-append bytes new);
+      bytes-are = stored-behind (v .bytes-are) part (v .end-is);
     }
 
 -- ---- single bytes

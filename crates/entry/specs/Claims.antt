@@ -8,9 +8,10 @@ use mathlib.Core.Logic.{_↔_}
 use mathlib.Core.Option.{none, some}
 use Prim.Native.Nat.{ℕ, _/_, _<_}
 use lib.ListN.{length}
-use Rattle.places.specs.Sets.{has, tally}
+use Rattle.places.specs.Sets.{has, Within, tally}
 use Rattle.book.specs.Layout.{decode}
 use Rattle.book.specs.declared.Verdict.the-variants as verdicts
+use Rattle.monitor.specs.Labelled.{Label}
 use Rattle.monitor.specs.Run.{Rec, State, Halt, about-labels, stop, with-cells}
 use Rattle.monitor.specs.Call.{Memory, Result, values, run-book, call-verdict, result-of, call}
 use Rattle.monitor.specs.Explain.{Explanation, explanation}
@@ -31,13 +32,21 @@ NoLabelsSame = (file : List ℕ) (budget : ℕ) (before after : Memory) (r : Ans
 -- Demand 3, two books side by side: two calls of the entry, with any budgets, any trace lengths and any earlier contents of lent memory.
 -- Both books are accepted, and they differ only in cells outside the reach that the group has in the first. Then of the two traces that
 -- the group sees one begins the other; a run that finishes shows the group all that the other shows; and where both runs finish, the
--- traces are the same, and so are the cells inside the reach.
+-- traces are the same, and so are the cells inside the reach. What lies outside is read by starting label, whatever the versions of the two files.
 abbrev pub Demand3 : Type 0
 Demand3 = (g : Group) (file file' : List ℕ) (budget budget' : ℕ) (before before' after after' : Memory) (r r' : Answer)
     → Runs file budget before r after → Runs file' budget' before' r' after'
     → accepted r ≡ true → accepted r' ≡ true
     → DifferOutside (reach g file (result r after)) file file'
     → LearnsNothing g (reach g file (result r after)) (result r after) (result r' after')
+
+-- The same for any set that holds the reach, as a chain of days needs it (crates/chains). With the reach itself it is Demand3.
+abbrev pub Demand3Within : Type 0
+Demand3Within = (g : Group) (R : Label) (file file' : List ℕ) (budget budget' : ℕ) (before before' after after' : Memory) (r r' : Answer)
+    → Runs file budget before r after → Runs file' budget' before' r' after'
+    → accepted r ≡ true → accepted r' ≡ true
+    → Within (reach g file (result r after)) R → DifferOutside R file file'
+    → LearnsNothing g R (result r after) (result r' after')
 
 -- ---- the reason of a stop (Change 1)
 

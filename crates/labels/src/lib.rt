@@ -1,8 +1,9 @@
 // The labels of the 512 cells in lent memory: the label of cell p is the eight words from 8 * p on.
 ghost use mathlib.Core.Path.{_≡_};
-ghost use Prim.Native.Nat.{_+_, _*_, _≤_};
-ghost use lib.ListN.{length};
-ghost use Rattle.labels.specs.Labels.{set-label, own-labels, no-labels};
+ghost use Prim.Native.Nat.{_+_, _*_, _≤_, _<_};
+ghost use lib.ListN.{length, getD};
+ghost use Rattle.places.specs.Sets.{single};
+ghost use Rattle.labels.specs.Labels.{label-at, set-label, own-labels, is-own, no-labels};
 
 // Makes `label` the label of cell `place`; the other labels stay.
 pub fn set_label(labels: &mut [u64], place: usize, label: [u64; 8])
@@ -40,4 +41,30 @@ pub fn own_labels(labels: &mut [u64])
         labels[8 * place + place / 64] = 1u64 << (place % 64);
         place += 1;
     }
+}
+
+// Word `word` of the set of `place` alone.
+pub fn own_word(place: usize, word: usize) -> u64
+    requires { ⌜ (place < 512) × (word < 8) ⌝ }
+    ensures { λ r. ⌜ r ≡ getD (single 8 place) word 0 ⌝ }
+{
+    if word != place / 64 {
+        return 0;
+    }
+    1u64 << (place % 64)
+}
+
+// Whether the label of cell `place` is its own place alone. It ends at the first word that differs.
+pub fn is_own(labels: &[u64], place: usize) -> bool
+    requires { ⌜ (place < 512) × (8 * place + 8 ≤ length (now labels)) ⌝ }
+    ensures { λ r. ⌜ r ≡ is-own place (label-at (now (labels .entry)) place) ⌝ }
+{
+    let mut word: usize = 0;
+    while word < 8 {
+        if labels[8 * place + word] != own_word(place, word) {
+            return false;
+        }
+        word += 1;
+    }
+    true
 }

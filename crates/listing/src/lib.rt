@@ -1,5 +1,5 @@
 // The run list: a book from standard input is run, and a line printed for each trace record and one for how the run ended. The explained list
-// has one line more, for the cell in the way of its stop.
+// has one line more, for the cell in the way of its stop; the list of a book that is carried forward ends with the book for the next day.
 use counting::LowestMember;
 ghost use Prim.Native.Nat.{_+_, _≤_};
 ghost use lib.ListN.{length};
@@ -11,6 +11,9 @@ const BUDGET: u32 = 100000;
 
 // The bytes of the trace.
 const TRACE: usize = 4096;
+
+// Room for the longest book.
+const BOOK: usize = 60000;
 
 // Prints a space and a number.
 fn print_number(number: u64) {
@@ -158,4 +161,41 @@ pub fn list_explained() {
     let place = explained.place;
     print_run(&trace, answer);
     print_explanation(place, explained.count);
+}
+
+// Prints a line with the length of a book, and then the book.
+fn print_book(book: &[u8], bytes: usize) {
+    if bytes == 0 {
+        return;
+    }
+    if book.len() < bytes {
+        return;
+    }
+    io::write_all(1, b"book");
+    print_number(bytes as u64);
+    io::write_all(1, b"\n");
+    io::write_all(1, &book[..bytes]);
+}
+
+// Reads a book, runs it, prints its lines, and where the run finished the book that it leaves.
+pub fn list_next_day() {
+    let mut file = [0u8; FILE];
+    let size = io::read_full(0, &mut file);
+    let mut amounts = [0i32; 512];
+    let mut presence = [0u64; 8];
+    let mut labels = [0u64; 4096];
+    let mut trace = [0u8; TRACE];
+    let mut book = [0u8; BOOK];
+    let carried = forward::carry_forward(
+        &file[..size],
+        BUDGET,
+        &mut amounts,
+        &mut presence,
+        &mut labels,
+        &mut trace,
+        &mut book,
+    );
+    let answer = carried.answer;
+    print_run(&trace, answer);
+    print_book(&book, carried.bytes);
 }

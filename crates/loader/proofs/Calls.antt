@@ -24,7 +24,7 @@ module _ (file : List ℕ) (amounts : List ℤ) (presence labels : List ℕ) whe
     answer = v;
     amounts = where-accepted v (start-amounts (decode file)) amounts;
     presence = where-accepted v (start-presence (decode file)) presence;
-    labels = where-accepted v start-labels labels;
+    labels = where-accepted v (start-labels (decode file)) labels;
   }
 
   load-by : load-call file amounts presence labels ≡ loaded (load-verdict file amounts presence labels)
@@ -46,7 +46,7 @@ module _ (file : List ℕ) (amounts : List ℤ) (presence labels : List ℕ) whe
         → record { answer = v; amounts = amounts; presence = presence; labels = labels } ≡ load-call file amounts presence labels
     load-refused number index q = rw q (rw q at load-file)
 
-    pub load-accepted : (a : List ℤ) (p l : List ℕ) → v ≡ Accepted → a ≡ start-amounts (decode file) → p ≡ start-presence (decode file) → l ≡ start-labels
+    pub load-accepted : (a : List ℤ) (p l : List ℕ) → v ≡ Accepted → a ≡ start-amounts (decode file) → p ≡ start-presence (decode file) → l ≡ start-labels (decode file)
         → record { answer = Accepted; amounts = a; presence = p; labels = l } ≡ load-call file amounts presence labels
     load-accepted a p l q x y z = (λ i. record { answer = Accepted; amounts = x i; presence = y i; labels = z i }) ∙ (rw q at load-file)
 

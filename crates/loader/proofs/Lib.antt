@@ -1,3 +1,4 @@
 pub mod Accepted
 pub mod Loads
 pub mod Calls
+pub mod Labels

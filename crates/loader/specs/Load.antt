@@ -21,7 +21,7 @@ where-accepted (Refused number index) new old = old
 abbrev pub lent-fits : List ℤ → List ℕ → List ℕ → Bool
 lent-fits amounts presence labels = eqb (length amounts) 512 && (eqb (length presence) 8 && eqb (length labels) 4096)
 
--- refusal 1, then 2 to 10
+-- refusal 1, then 2 to 10 and 32
 unfoldable pub load-verdict : List ℕ → List ℤ → List ℕ → List ℕ → Verdict
 load-verdict file amounts presence labels = and-then (need 1 (lent-fits amounts presence labels)) (verdict file)
 
@@ -39,7 +39,7 @@ load-call file amounts presence labels =
       answer = v;
       amounts = where-accepted v (start-amounts (decode file)) amounts;
       presence = where-accepted v (start-presence (decode file)) presence;
-      labels = where-accepted v start-labels labels;
+      labels = where-accepted v (start-labels (decode file)) labels;
     }
 
 -- what `load` ensures of its answer, in the paper's numbers: 1 with index 0 for a lent length, else those of the file's verdict

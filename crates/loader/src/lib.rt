@@ -4,7 +4,7 @@ ghost use lib.IntN.{pos};
 ghost use lib.ListN.{length};
 ghost use Rattle.book.specs.Layout.{decode};
 ghost use Rattle.book.specs.Refusals.{verdict};
-ghost use Rattle.book.specs.Start.{tabulate, start-amounts, start-presence};
+ghost use Rattle.book.specs.Start.{tabulate, start-amounts, start-presence, start-labels};
 ghost use Rattle.book.specs.declared.Verdict.the-variants.{Accepted};
 ghost use Rattle.loader.specs.Load.{load-call};
 
@@ -40,6 +40,23 @@ pub fn load_cells(file: &[u8], amounts: &mut [i32]) -> [u64; 8]
     set
 }
 
+// Makes the label of each cell the one that the book has for it, from the last record to the first, and its own place alone elsewhere.
+fn load_labels(file: &[u8], labels: &mut [u64])
+    requires { ⌜ (verdict (now file) ≡ Accepted) × (length (now labels) ≡ 4096) ⌝ }
+    ensures { λ _. ⌜ now (labels .exit) ≡ start-labels (decode (now (file .entry))) ⌝ }
+{
+    labels::own_labels(labels);
+    let section = book::label_section(file);
+    let start = section.start;
+    let mut label = section.count;
+    while 0 < label {
+        label -= 1;
+        let at = start + label * 66;
+        let place = label_records::place_at(file, at);
+        labels::set_label(labels, place, label_records::label_at(file, at));
+    }
+}
+
 // Sets lent memory to the start state of the book in a file, or refuses and leaves it as it was.
 pub fn load(
     file: &[u8],
@@ -65,6 +82,6 @@ pub fn load(
     };
     let set = load_cells(file, amounts);
     memory::copy_words(&set, presence);
-    labels::own_labels(labels);
+    load_labels(file, labels);
     book::Verdict::Accepted
 }

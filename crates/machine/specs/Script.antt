@@ -50,6 +50,7 @@ script-of s = record {
   nodes = records nodes-format (held-count s 2) 0 s;
   programs = records programs-format (held-count s 3) programs-start s;
   triggers = records triggers-format (held-count s 4) triggers-start s;
+  labels = [];
 }
 
 -- a book with no more records than a file may have, each of which passes its check

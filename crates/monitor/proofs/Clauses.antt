@@ -1,8 +1,8 @@
 -- The clauses of the rules and of a call give what is said of them, by computation. Assumes nothing.
 use mathlib.Core.Path.{refl}
 use Rattle.places.specs.Sets.{single, tally, least}
-use Rattle.labels.specs.Labels.{own-labels}
-use Rattle.book.specs.Start.{start-amounts, start-presence}
+use Rattle.labels.specs.Labels.{labels-by}
+use Rattle.book.specs.Start.{start-amounts, start-presence, remembered, start-labels}
 use Rattle.monitor.specs.Call.{cells-of, amounts-in, presence-in, labels-in, start-cells, start-state, run-book, answered, call}
 use Rattle.monitor.specs.Explain.{stands, reason, explanation, explained, explain-call}
 use Rattle.book.specs.Tables.{w-file}
@@ -194,7 +194,7 @@ rule-clauses = record {
 }
 
 pub call-clauses : CallClauses
-unfolding called-quick w-file cells-of amounts-in presence-in labels-in start-cells start-state run-book start-amounts start-presence own-labels single answered call
+unfolding called-quick w-file cells-of amounts-in presence-in labels-in start-cells start-state run-book start-amounts start-presence labels-by remembered start-labels single answered call
 call-clauses = record {
   numbers = refl;
   cells-lent = refl;
@@ -226,10 +226,13 @@ call-clauses = record {
   room-of-trace = refl;
   counted = refl;
   posting-fails = (refl, refl, refl, refl, refl);
+  posting-fails-unlabelled = (refl, refl);
+  writes-stay = (refl, refl);
+  public-read = refl;
 }
 
 pub explain-clauses : ExplainClauses
-unfolding called-quick w-file cells-of amounts-in presence-in labels-in start-cells start-state run-book start-amounts start-presence own-labels single answered call tally least stands reason explanation explained explain-call
+unfolding called-quick w-file cells-of amounts-in presence-in labels-in start-cells start-state run-book start-amounts start-presence labels-by remembered start-labels single answered call tally least stands reason explanation explained explain-call
 explain-clauses = record {
   standing = refl;
   lowest-counted = refl;

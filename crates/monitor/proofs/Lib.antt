@@ -2,5 +2,5 @@ pub mod Memory
 pub mod Start
 pub mod Tables
 pub mod Marked
-pub mod Examples
+pub mod Shortcuts
 pub mod Clauses

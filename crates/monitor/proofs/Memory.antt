@@ -41,7 +41,7 @@ module _ (cells : ℕ → Lab Cell) where
   eight-less : (n : ℕ) → Eight cells (suc n) → Eight cells n
   eight-less n h = record { words = λ q l. h .words q (omega arith) }
 
-  length-labels-in : (n : ℕ) → Eight cells n → length (labels-in cells n) ≡ 8 * n
+  pub length-labels-in : (n : ℕ) → Eight cells n → length (labels-in cells n) ≡ 8 * n
   unfolding labels-in
   length-labels-in zero h = refl
   length-labels-in (suc n) h = rw length-append (omega (arith, length-labels-in n (eight-less n h), h .words n (omega arith)))

@@ -6,14 +6,14 @@ use mathlib.Core.Bool.{Bool, true}
 use Prim.Native.Nat.{ℕ, _/_}
 use lib.IntN.{ℤ, pos}
 use lib.ListN.{length}
-use Rattle.places.specs.Sets.{has, word-of, set-of, word-by-word, union, difference, within}
+use Rattle.places.specs.Sets.{has, word-of, set-of, single, same-words, word-by-word, union, difference, within}
 use Rattle.regions.specs.Regions.{in-region, region-set}
-use Rattle.book.specs.Records.{records, section-bytes, cells-format, regions-format, rights-format, nodes-format, programs-format, triggers-format, Book}
-use Rattle.book.specs.Layout.{in-order, bounds, decode}
+use Rattle.book.specs.Records.{records, section-bytes, cells-format, regions-format, rights-format, nodes-format, programs-format, triggers-format, label-of, labels-format, Book}
+use Rattle.book.specs.Layout.{in-order, six-bounds, decode}
 use Rattle.book.specs.Kinds.{cost-of, sort-of, fields-of}
 use Rattle.book.specs.Refusals as refusals
-use Rattle.book.specs.Refusals.{and-then, first, blame, length-fits, mark-fits, sections-fit, cell-fits, rises, bad-cell, region-fits, bad-region, right-fits, bad-right, field-fits, is-zero, node-fits, is-command, program-fits, bad-program, forbidden, reaches, trigger-fits, bad-trigger, book-verdict, verdict}
-use Rattle.book.specs.Encode.{extents, distance-to-end, pairs, other-sections, trailer-bytes, encode}
+use Rattle.book.specs.Refusals.{and-then, first, blame, length-fits, mark-fits, sections-fit, cell-fits, rises, bad-cell, region-fits, bad-region, right-fits, bad-right, field-fits, is-zero, node-fits, is-command, program-fits, bad-program, forbidden, reaches, trigger-fits, bad-trigger, label-fits, bad-label, book-verdict, verdict}
+use Rattle.book.specs.Encode.{six-extents, distance-to-end, pairs, other-sections, tail-bytes, encode}
 use Rattle.book.specs.Start.{tabulate, amount-at, rights-hold, right-set}
 use Rattle.book.specs.declared.Verdict.{Verdict}
 use Rattle.book.specs.declared.Verdict.the-variants.{Accepted, Refused}
@@ -25,7 +25,7 @@ use Rattle.monitor.specs.Call.{Memory, Result, values, record-bytes, tra
 use Rattle.monitor.specs.Samples.{final}
 use Rattle.monitor.specs.Tables.{Shown, Row, lent, shown, called, book-answered, ran, Shows, Leaving, left, Leaves}
 use Rattle.monitor.specs.declared.Answer.the-variants as answers
-use Rattle.monitor.proofs.Start.{start-cell, start-is}
+use Rattle.monitor.proofs.Start.{label-quick, start-cell, start-is}
 
 -- ---- a book's run, its start cells place by place
 
@@ -91,7 +91,7 @@ left-same labels z n x =
 -- ---- tables that hold by computation
 
 unfoldable pub called-quick : ℤ → ℕ → Row (List ℕ) → Shown
-unfolding has word-of set-of word-by-word union difference within in-region region-set records section-bytes cells-format regions-format rights-format nodes-format programs-format triggers-format in-order bounds decode cost-of sort-of fields-of and-then refusals.need refusals.marked first blame length-fits mark-fits sections-fit cell-fits rises bad-cell region-fits bad-region right-fits bad-right field-fits node-fits is-command program-fits bad-program forbidden reaches trigger-fits bad-trigger book-verdict verdict extents distance-to-end pairs other-sections trailer-bytes encode tabulate amount-at rights-hold right-set lit lift lift2 via under after next each when guard need update pay set-var set-cell tell sixteen restore own taken-back undoing exp-of cmd-of fits-32 equals less-than key from-to box-of in-box gather seen amounts-of count-of sum-of best best-of aggregate ranged found expr within-label is-zero choose key-place in-table posting trigger-vars numbers region-places granted revoked fitting trigger-run fire write-cell command eval exec program run values record-bytes trace-bytes script rows start-rights call-verdict memory-after result-of cut trace-records lent start-cell shown run-from run-quick answered-by called-by
+unfolding has word-of set-of single same-words word-by-word union difference within in-region region-set records section-bytes cells-format regions-format rights-format nodes-format programs-format triggers-format label-of labels-format in-order six-bounds decode cost-of sort-of fields-of and-then refusals.need refusals.marked first blame length-fits mark-fits sections-fit cell-fits rises bad-cell region-fits bad-region right-fits bad-right field-fits node-fits is-command program-fits bad-program forbidden reaches trigger-fits bad-trigger label-fits bad-label book-verdict verdict six-extents distance-to-end pairs other-sections tail-bytes encode tabulate amount-at rights-hold right-set lit lift lift2 via under after next each when guard need update pay set-var set-cell tell sixteen restore own taken-back undoing exp-of cmd-of fits-32 equals less-than key from-to box-of in-box gather seen amounts-of count-of sum-of best best-of aggregate ranged found expr within-label is-zero choose key-place in-table posting trigger-vars numbers region-places granted revoked fitting trigger-run fire write-cell command eval exec program run values record-bytes trace-bytes script rows start-rights call-verdict memory-after result-of cut trace-records lent label-quick start-cell shown run-from run-quick answered-by called-by
 called-quick = called-by (run-quick true)
 
 unfoldable pub ran-quick : Bool → ℤ → ℕ → Row Book → Shown

@@ -69,16 +69,16 @@ trace-bytes (r ∷ rs) = record-bytes r ++ trace-bytes rs
 
 -- ---- the start
 
--- the book without its cells, which is all of it that the rules look at
+-- the book without its cells and their labels, which is all of it that the rules look at
 unfoldable pub script : Book → Book
-script b = record { cells = []; regions = b .regions; rights = b .rights; nodes = b .nodes; programs = b .programs; triggers = b .triggers }
+script b = record { cells = []; regions = b .regions; rights = b .rights; nodes = b .nodes; programs = b .programs; triggers = b .triggers; labels = [] }
 
 -- each user's set; there are no other users
 unfoldable pub rows : List (List ℕ) → ℕ → Label
 rows sets user = getD sets user []
 
 unfoldable pub start-cells : Book → ℕ → Lab Cell
-start-cells b = cells-of (start-amounts b) (start-presence b) start-labels
+start-cells b = cells-of (start-amounts b) (start-presence b) (start-labels b)
 
 unfoldable pub start-rights : Book → Rights
 start-rights b = record { read = rows (read-sets b); write = rows (write-sets b) }

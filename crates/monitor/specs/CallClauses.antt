@@ -1,13 +1,13 @@
 -- What each part of a call gives, at its limits: the clauses of Call.antt one by one.
 use mathlib.Core.Path.{_≡_}
 use mathlib.Core.List.{List, [], _∷_, _++_, map}
-use mathlib.Core.Bool.{true, false}
+use mathlib.Core.Bool.{Bool, true, false}
 use Prim.Native.Nat.{ℕ, _+_, _^_}
 use lib.IntN.{pos, negsuc}
 use lib.ListN.{getD, take, drop, replicate}
 use Rattle.book.specs.Records.{Book}
 use Rattle.book.specs.Encode.{encode}
-use Rattle.book.specs.Tables.{cell, table-region, may-write, constant, variable, both, put, clear, out, raise, program, trigger, w-file}
+use Rattle.book.specs.Tables.{cell, table-region, public, may-write, constant, variable, sum, both, put, clear, out, raise, program, trigger, w-file}
 use Rattle.book.specs.declared.Verdict.{Verdict}
 use Rattle.book.specs.declared.Verdict.the-variants as verdicts
 use Rattle.monitor.specs.Labelled.{lit}
@@ -42,6 +42,7 @@ raising = record {
   nodes = raise 0 0 ∷ variable 0 ∷ out 1 1 ∷ both 0 2 ∷ [];
   programs = program 0 3 ∷ [];
   triggers = [];
+  labels = [];
 }
 
 -- the file of a book that tells user 1 the constant 0 twice
@@ -53,17 +54,43 @@ telling-twice = encode (record {
   nodes = constant (pos 0) ∷ out 0 1 ∷ both 1 1 ∷ [];
   programs = program 0 2 ∷ [];
   triggers = [];
+  labels = [];
 })
 
 -- the call of a book in which 2 is put at (0,0,0), and the trigger clears (0,0,2), puts 2 at (0,0,1), which is absent, and stops at owner 8
-abbrev pub failing-call : Call.Result
-failing-call = Call.call true (encode (record {
+abbrev pub failing-call : Bool → Call.Result
+failing-call labels = Call.call labels (encode (record {
   cells = cell 0 0 0 (pos 5) ∷ cell 0 0 2 (pos 6) ∷ [];
   regions = table-region 0 ∷ [];
   rights = may-write 0 0 ∷ [];
   nodes = constant (pos 0) ∷ constant (pos 1) ∷ constant (pos 2) ∷ constant (pos 8) ∷ put 0 0 0 2 ∷ clear 0 0 2 ∷ put 0 0 1 2 ∷ put 0 3 0 0 ∷ both 5 6 ∷ both 8 7 ∷ [];
   programs = program 0 4 ∷ [];
   triggers = trigger 0 1 0 9 ∷ [];
+  labels = [];
+})) 100 (lent 512 8 4096 16)
+
+-- the call of a book in which 2 is put at (0,0,0), and then a put stops at owner 8; no trigger fires
+abbrev pub stopping-call : Call.Result
+stopping-call = Call.call true (encode (record {
+  cells = [];
+  regions = table-region 0 ∷ [];
+  rights = may-write 0 0 ∷ [];
+  nodes = constant (pos 0) ∷ constant (pos 2) ∷ constant (pos 8) ∷ put 0 0 0 1 ∷ put 0 2 0 0 ∷ both 3 4 ∷ [];
+  programs = program 0 5 ∷ [];
+  triggers = [];
+  labels = [];
+})) 100 (lent 512 8 4096 16)
+
+-- the call of a book that tells user 6, who has no right, the sum of owner 0's line 0, which is public
+abbrev pub public-call : Call.Result
+public-call = Call.call true (encode (record {
+  cells = cell 0 0 0 (pos 5) ∷ [];
+  regions = table-region 0 ∷ [];
+  rights = public 0 ∷ [];
+  nodes = constant (pos 0) ∷ sum 0 0 0 0 0 ∷ out 1 6 ∷ [];
+  programs = program 0 2 ∷ [];
+  triggers = [];
+  labels = [];
 })) 100 (lent 512 8 4096 16)
 
 -- a run that told two records and left 93
@@ -95,13 +122,14 @@ pub record CallClauses : Type 0 where
       ≡ (1 ∷ 3 ∷ 0 ∷ 0 ∷ 254 ∷ 255 ∷ 255 ∷ 255 ∷ []) ∷ (1 ∷ 7 ∷ 0 ∷ 0 ∷ 1 ∷ 2 ∷ 3 ∷ 4 ∷ []) ∷ []
   pub records-changed : Call.record-bytes (changed 5 6 7) ≡ 5 ∷ 6 ∷ 7 ∷ 0 ∷ 0 ∷ 0 ∷ 0 ∷ 0 ∷ []
   pub records-in-order : Call.trace-bytes (said 1 (pos 5) ∷ changed 2 3 1 ∷ []) ≡ two-records
-  -- the script is the book without its cells
-  pub script-kept : Call.script small-book ≡ record { cells = []; regions = small-book .regions; rights = small-book .rights; nodes = small-book .nodes; programs = small-book .programs; triggers = small-book .triggers }
+  -- the script is the book without its cells and labels
+  pub script-kept : Call.script small-book ≡ record { cells = []; regions = small-book .regions; rights = small-book .rights; nodes = small-book .nodes; programs = small-book .programs; triggers = small-book .triggers; labels = [] }
   -- user 1's set, and none for user 3 of three
   pub rows-of : map (Call.rows ((5 ∷ []) ∷ (6 ∷ []) ∷ (7 ∷ []) ∷ [])) (1 ∷ 3 ∷ []) ≡ (6 ∷ []) ∷ [] ∷ []
-  -- the start: cell (0,0,3) holds 33 and cell (1,2,3) 44, with their own places; user 5 reads region 1 and user 6 writes region 0
-  pub start-of-cells : map (Call.start-state small-book 77 9 .cells) (3 ∷ 83 ∷ 84 ∷ [])
-      ≡ record { val = held (pos 33); lab = eight 8 } ∷ record { val = held (pos 44); lab = 0 ∷ 524288 ∷ replicate 6 0 } ∷ record { val = absent; lab = 0 ∷ 1048576 ∷ replicate 6 0 } ∷ []
+  -- the start: cell (0,0,3) holds 33 with its own place, cell (1,2,3) 44 with the label of its record; of two absent cells one has a record;
+  -- user 5 reads region 1 and user 6 writes region 0
+  pub start-of-cells : map (Call.start-state small-book 77 9 .cells) (3 ∷ 83 ∷ 84 ∷ 85 ∷ [])
+      ≡ record { val = held (pos 33); lab = eight 8 } ∷ record { val = held (pos 44); lab = eight 5 } ∷ record { val = absent; lab = 0 ∷ 1048576 ∷ replicate 6 0 } ∷ record { val = absent; lab = eight 0 } ∷ []
   pub start-of-vars : map (Call.start-state small-book 77 9 .vars) (0 ∷ 15 ∷ []) ≡ lit (pos 0) ∷ lit (pos 0) ∷ []
   pub start-of-rights : (map (Call.start-state small-book 77 9 .rights .read) (5 ∷ 6 ∷ []) ≡ eight 65280 ∷ eight 0 ∷ [])
       × (map (Call.start-state small-book 77 9 .rights .write) (5 ∷ 6 ∷ []) ≡ eight 0 ∷ eight 48 ∷ [])
@@ -138,6 +166,12 @@ pub record CallClauses : Type 0 where
       ≡ ((1 ∷ 1 ∷ 0 ∷ 0 ∷ 5 ∷ 0 ∷ 0 ∷ 0 ∷ []) ∷ (2 ∷ 3 ∷ 1 ∷ 0 ∷ 0 ∷ 0 ∷ 0 ∷ 0 ∷ []) ∷ []) ∷ ((1 ∷ 1 ∷ 0 ∷ 0 ∷ 5 ∷ 0 ∷ 0 ∷ 0 ∷ []) ∷ []) ∷ []
   -- a posting that fails, from the file to lent memory: amounts, presence and labels are those of the start, and what it cost is spent: 4, two
   -- sequences, 3, 4 and 4
-  pub posting-fails : (failing-call .answer ≡ Stopped 23 7 17 0) × (take 3 (failing-call .memory .amounts) ≡ pos 5 ∷ pos 0 ∷ pos 6 ∷ [])
-      × (failing-call .memory .presence ≡ eight 5) × (take 24 (failing-call .memory .labels) ≡ eight 1 ++ eight 2 ++ eight 4)
-      × (failing-call .memory .trace ≡ replicate 16 4)
+  pub posting-fails : (failing-call true .answer ≡ Stopped 23 7 17 0) × (take 3 (failing-call true .memory .amounts) ≡ pos 5 ∷ pos 0 ∷ pos 6 ∷ [])
+      × (failing-call true .memory .presence ≡ eight 5) × (take 24 (failing-call true .memory .labels) ≡ eight 1 ++ eight 2 ++ eight 4)
+      × (failing-call true .memory .trace ≡ replicate 16 4)
+  -- and so in the run with no labels
+  pub posting-fails-unlabelled : (failing-call false .answer ≡ Stopped 23 7 17 0) × (take 3 (failing-call false .memory .amounts) ≡ pos 5 ∷ pos 0 ∷ pos 6 ∷ [])
+  -- a stop outside a trigger's body takes nothing back: what the program wrote before stays
+  pub writes-stay : (stopping-call .answer ≡ Stopped 23 4 9 0) × (take 1 (stopping-call .memory .amounts) ≡ pos 2 ∷ [])
+  -- who has no right to read may still read what is public
+  pub public-read : public-call .answer ≡ Finished 9 8

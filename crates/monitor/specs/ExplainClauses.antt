@@ -43,6 +43,7 @@ hidden-put = record {
   nodes = constant (pos 0) ∷ constant (pos 1) ∷ constant (pos 2) ∷ sum 0 2 2 0 0 ∷ put 0 1 0 1 ∷ skip ∷ if 3 4 5 ∷ [];
   programs = program 0 6 ∷ [];
   triggers = [];
+  labels = [];
 }
 
 -- The amount of (0,1,0) is copied to (1,0,0), whose label is then place 8; then 2 is put at (0,1,0), whose label is then empty. In the context of
@@ -56,6 +57,7 @@ put-again = record {
       ∷ sum 1 0 0 0 0 ∷ sum 0 2 2 0 0 ∷ plus 7 8 ∷ put 0 1 0 1 ∷ skip ∷ if 9 10 11 ∷ [];
   programs = program 0 6 ∷ [];
   triggers = trigger 0 1 0 12 ∷ [];
+  labels = [];
 }
 
 -- The amount of (0,2,0) is put at (0,1,0), whose label is then place 16. In its context the trigger assigns a variable: 25 of place 16 against
@@ -68,6 +70,7 @@ assign-after = record {
   nodes = constant (pos 0) ∷ constant (pos 1) ∷ constant (pos 2) ∷ sum 0 2 2 0 0 ∷ put 0 1 0 3 ∷ sum 0 1 1 0 0 ∷ assign 5 1 ∷ skip ∷ if 5 6 7 ∷ [];
   programs = program 0 4 ∷ [];
   triggers = trigger 0 1 0 8 ∷ [];
+  labels = [];
 }
 
 pub record ExplainClauses : Type 0 where

@@ -6,7 +6,6 @@ pub mod Call
 pub mod Explain
 pub mod Tables
 pub mod Marked
-pub mod Examples
 pub mod Shortcuts
 pub mod Samples
 pub mod RunClauses

@@ -12,7 +12,7 @@ use Rattle.monitor.specs.Tables.{Row, called, Shows, run-list, shows, to
 -- W with other rights, other nodes from 4 on and other programs, and the bytes of that book
 abbrev pub w-with : List RightRecord → List NodeRecord → List ProgramRecord → Book
 w-with rights nodes programs =
-    record { cells = w-cells; regions = w-regions; rights = rights; nodes = constants ++ nodes; programs = programs; triggers = [] }
+    record { cells = w-cells; regions = w-regions; rights = rights; nodes = constants ++ nodes; programs = programs; triggers = []; labels = [] }
 
 abbrev pub w-file-with : List RightRecord → List NodeRecord → List ProgramRecord → List ℕ
 w-file-with rights nodes programs = encode (w-with rights nodes programs)

@@ -8,7 +8,7 @@ use lib.Dec.{eqb}
 use lib.IntN.{ℤ, pos}
 use lib.ListN.{getD}
 use Rattle.book.specs.Records.{Book}
-use Rattle.book.specs.Tables.{cell, owner-region, table-region, public, may-read, may-write, constant, sum, skip, program, trigger}
+use Rattle.book.specs.Tables.{cell, owner-region, table-region, public, may-read, may-write, constant, sum, skip, program, trigger, remember}
 use Rattle.monitor.specs.Labelled.{Label, Lab}
 use Rattle.monitor.specs.Run.{Cell, held, absent, State, Rec, said, changed, Out, done, stop, M, spend}
 use Rattle.monitor.specs.Rules.{Key, Env}
@@ -68,7 +68,8 @@ having left room = record { cells = sample .cells; vars = sample .vars; rights =
 
 -- ---- a book
 
--- Places 4 and 5 of table 0 are public; regions 1 and 2 are owner 1 of table 0, which is places 8 to 15, and table 1.
+-- Places 4 and 5 of table 0 are public; regions 1 and 2 are owner 1 of table 0, which is places 8 to 15, and table 1. The labels of cell
+-- (1,2,3) and of (1,2,5), which is absent, are places 0 and 2, and none.
 abbrev pub small-book : Book
 small-book = record {
   cells = cell 0 0 3 (pos 33) ∷ cell 1 2 3 (pos 44) ∷ [];
@@ -77,6 +78,7 @@ small-book = record {
   nodes = constant (pos 7) ∷ sum 1 0 0 0 0 ∷ skip ∷ [];
   programs = program 4 2 ∷ [];
   triggers = trigger 1 1 5 40 ∷ trigger 1 1 6 41 ∷ trigger 1 2 7 42 ∷ trigger 2 1 4 43 ∷ trigger 1 1 2 44 ∷ [];
+  labels = remember 83 (5 ∷ []) ∷ remember 85 [] ∷ [];
 }
 
 -- ---- stand-ins for children

@@ -20,6 +20,7 @@ hiding cells nodes root triggers =
       nodes = (constant (pos 0) ∷ constant (pos 1) ∷ constant (pos 2) ∷ sum 0 2 2 0 0 ∷ []) ++ nodes;
       programs = program 0 root ∷ [];
       triggers = triggers;
+      labels = [];
     }
 
 abbrev pub holds : ℕ → List CellRecord

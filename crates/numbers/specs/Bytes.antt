@@ -1,5 +1,5 @@
 -- Numbers in a file's bytes, lowest byte first.
-use mathlib.Core.List.{List, [], _∷_}
+use mathlib.Core.List.{List, [], _∷_, _++_}
 use Prim.Native.Nat.{ℕ, _+_, _*_, _/_, _%_, _<_}
 use lib.IntN.{ℤ}
 use lib.ListN.{getD}
@@ -22,6 +22,9 @@ le24 s at = byte s at + 256 * le16 s (at + 1)
 abbrev pub le32 : List ℕ → ℕ → ℕ
 le32 s at = le16 s at + 65536 * le16 s (at + 2)
 
+abbrev pub le64 : List ℕ → ℕ → ℕ
+le64 s at = le32 s at + 4294967296 * le32 s (at + 4)
+
 -- 32 bits as a signed number, in two's complement, and back
 abbrev pub signed32 : ℕ → ℤ
 signed32 n = toZ w32 n
@@ -29,7 +32,7 @@ signed32 n = toZ w32 n
 abbrev pub bits32 : ℤ → ℕ
 bits32 z = ofZ w32 z
 
--- the bytes of a number of 16, 24 or 32 bits
+-- the bytes of a number of 16, 24, 32 or 64 bits
 abbrev pub two : ℕ → List ℕ
 two n = n % 256 ∷ n / 256 % 256 ∷ []
 
@@ -38,3 +41,6 @@ three n = n % 256 ∷ n / 256 % 256 ∷ n / 65536 % 256 ∷ []
 
 abbrev pub four : ℕ → List ℕ
 four n = n % 256 ∷ n / 256 % 256 ∷ n / 65536 % 256 ∷ n / 16777216 % 256 ∷ []
+
+abbrev pub eight : ℕ → List ℕ
+eight n = four n ++ four (n / 4294967296)

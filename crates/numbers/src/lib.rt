@@ -2,7 +2,7 @@
 ghost use mathlib.Core.Path.{_≡_};
 ghost use Prim.Native.Nat.{_+_, _≤_, _<_};
 ghost use lib.ListN.{length};
-ghost use Rattle.numbers.specs.Bytes.{byte, le16, le24, le32, signed32, bits32};
+ghost use Rattle.numbers.specs.Bytes.{byte, le16, le24, le32, le64, signed32, bits32};
 
 // The byte at `at`.
 pub fn byte_at(file: &[u8], at: usize) -> usize
@@ -36,6 +36,16 @@ pub fn u32_at(file: &[u8], at: usize) -> u32
     let low = u16_at(file, at);
     let high = u16_at(file, at + 2);
     (low + 65536 * high) as u32
+}
+
+// The eight bytes at `at`, lowest first.
+pub fn u64_at(file: &[u8], at: usize) -> u64
+    requires { ⌜ at + 8 ≤ length (now file) ⌝ }
+    ensures { λ r. ⌜ r ≡ le64 (now (file .entry)) at ⌝ }
+{
+    let low = u32_at(file, at);
+    let high = u32_at(file, at + 4);
+    low as u64 + 4294967296 * high as u64
 }
 
 // The four bytes at `at` as a signed number, two's complement.

@@ -6,3 +6,4 @@ pub mod Comparing
 pub mod Examples
 pub mod Shapes
 pub mod Loops
+pub mod SameWords

@@ -2,7 +2,7 @@
 -- Place p is bit p % 64 of word p / 64, which is bit 8 · owner + line of word `table`. Nothing here fixes the number of words.
 use mathlib.Core.Path.{_≡_}
 use mathlib.Core.List.{List, [], _∷_}
-use mathlib.Core.Bool.{Bool, true, _&&_, not, cond}
+use mathlib.Core.Bool.{Bool, true, false, _&&_, not, cond}
 use mathlib.Core.Option.{Option, none, some}
 use Prim.Native.Nat.{ℕ, zero, suc, _+_, _*_, _/_, _%_, _^_, _<_}
 use lib.Bits.{bitOr, bitAnd, bitXor}
@@ -38,6 +38,13 @@ set-of (suc n) f = word-of f 64 ∷ set-of n (λ p. f (64 + p))
 -- the set of place p alone, of n words
 unfoldable pub single : ℕ → ℕ → List ℕ
 single n p = set-of n (λ q. eqb q p)
+
+-- whether two sets have the same words
+unfoldable pub same-words : List ℕ → List ℕ → Bool
+same-words [] [] = true
+same-words [] (y ∷ b) = false
+same-words (x ∷ a) [] = false
+same-words (x ∷ a) (y ∷ b) = eqb x y && same-words a b
 
 -- f on the words of two sets, one by one; a word past an end counts as 0
 unfoldable pub word-by-word : (ℕ → ℕ → ℕ) → List ℕ → List ℕ → List ℕ

@@ -7,7 +7,7 @@ use Rattle.book.specs.Layout.{decode}
 use Rattle.book.specs.Refusals.{verdict-values, length-fits, mark-fits, sections-fit, book-verdict, verdict}
 use Rattle.book.specs.declared.Verdict.{Verdict}
 
--- what `inspect` ensures of its answer, in numbers: 2, 3 and 4 with index 0, in this order, then the number and index of the first bad record
+-- what `inspect` ensures of its answer, in numbers: 2, 3 and 4 with index 0, in this order, then the number, 5 to 10 or 32, and the index of the first bad record
 abbrev pub InspectValues : Type 0
 InspectValues =
     (file : List ℕ) (r : Verdict) → r ≡ verdict file

@@ -3,7 +3,7 @@ ghost use mathlib.Core.Path.{_≡_};
 ghost use Rattle.book.specs.Layout.{decode};
 ghost use Rattle.book.specs.Refusals.{Laid, book-verdict, verdict};
 
-// Refusals 5 to 10: the records, in the order of the sections.
+// Refusals 5 to 10 and 32: the records, in the order of the sections.
 fn inspect_records(file: &[u8]) -> book::Verdict
     requires { ⌜ Laid (now file) ⌝ }
     ensures { λ r. ⌜ r ≡ book-verdict (decode (now (file .entry))) ⌝ }
@@ -32,10 +32,14 @@ fn inspect_records(file: &[u8]) -> book::Verdict
     if trigger < book::section_at(file, 5).count {
         return book::Verdict::Refused(10, trigger);
     }
+    let label = label_records::first_bad_label(file);
+    if label < book::label_section(file).count {
+        return book::Verdict::Refused(32, label);
+    }
     book::Verdict::Accepted
 }
 
-// Refusals 2 to 10 of a file, in the paper's order.
+// Refusals 2 to 10 and 32 of a file, in the paper's order.
 pub fn inspect(file: &[u8]) -> book::Verdict
     ensures { λ r. ⌜ r ≡ verdict (now (file .entry)) ⌝ }
 {

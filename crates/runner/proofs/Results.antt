@@ -46,7 +46,7 @@ ended-obstacle Done run sets records s = refl
 ended-obstacle Stopped run sets records s = refl
 
 module _ (file code : List ℕ) (same : script-of code ≡ script (decode file)) {amounts : List ℤ} {present : List ℕ} {sets : List (List ℕ)}
-    (load : (amounts ≡ start-amounts (decode file)) × (present ≡ start-presence (decode file))) (h : SetsOf (script-of code) present sets) where
+    (load : (amounts ≡ start-amounts (decode file)) × (present ≡ start-presence (decode file))) (h : SetsOf (script-of code) (decode file .labels) present sets) where
   abbrev b : Book
   b = decode file
 

@@ -67,7 +67,7 @@ fn started(
     start::copy_script(file, &mut code);
     let none = [0u64; 8];
     let mut sets = [none; machine::SET_ROWS];
-    start::start_sets(&code, present, &mut sets);
+    start::start_sets(file, &code, present, &mut sets);
     let mut run = [0u32; machine::RUN_NUMBERS];
     run[machine::LEFT] = budget;
     let outcome = programs::programs(&code, &mut cells, &mut sets, &mut run, trace);

@@ -92,6 +92,7 @@ module _ (file : List ℕ) (v : verdict file ≡ Accepted) (b : Bytes file) wher
             (omega (arith, programs-inside z)) (omega (arith, z .few-programs)) (omega (arith, long)) i;
         triggers = section-held triggers-codec 5 triggers-start _ _ c₆ code (triggers .1) (counts .0) (counts .1 4 (lit< tt))
             (omega (arith, triggers-inside z)) (omega (arith, z .few-triggers)) (omega (arith, long)) i;
+        labels = [];
       } in (
         record {
           long = long;

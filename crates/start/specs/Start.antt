@@ -4,12 +4,11 @@ use mathlib.Core.List.{List}
 use mathlib.Core.Bool.{true}
 use Prim.Native.Nat.{ℕ, _+_, _*_, _<_}
 use lib.ListN.{length, take, drop}
-use Rattle.places.specs.Sets.{single}
 use Rattle.book.specs.Bytes.{le32}
-use Rattle.book.specs.Records.{Book}
+use Rattle.book.specs.Records.{LabelRecord, Book}
 use Rattle.book.specs.Kinds.{cost-of}
 use Rattle.book.specs.Layout.{count, section}
-use Rattle.book.specs.Start.{public-set, read-sets, write-sets}
+use Rattle.book.specs.Start.{remembered, public-set, read-sets, write-sets}
 use Rattle.monitor.specs.Call.{rows}
 use Rattle.machine.specs.Script.{prices-start, held-count}
 use Rattle.machine.specs.Store.{row-at, present-row, public-row, read-row, write-row, label-row, set-rows, users-rows, idle}
@@ -29,12 +28,12 @@ Prices code = (kind : ℕ) → kind < 27 → le32 code (prices-start + 4 * kind)
 abbrev pub Counts : List ℕ → List ℕ → Type 0
 Counts file code = (i : ℕ) → i < 5 → held-count code i ≡ count file (i + 1)
 
--- the cells that are present, the rights of the book's records, for each cell its own place alone, and no posting under way
-pub record SetsOf (b : Book) (present : List ℕ) (sets : List (List ℕ)) : Type 0 where
+-- the cells that are present, the rights of the book's records, for each cell the label that the label records give it, and no posting under way
+pub record SetsOf (b : Book) (records : List LabelRecord) (present : List ℕ) (sets : List (List ℕ)) : Type 0 where
   pub long : length sets ≡ set-rows
   pub present-is : row-at sets present-row ≡ present
   pub public-is : row-at sets public-row ≡ public-set b
   pub read-are : users-rows sets read-row ≡ rows (read-sets b)
   pub write-are : users-rows sets write-row ≡ rows (write-sets b)
-  pub labels-are : (place : ℕ) → place < 512 → row-at sets (label-row + place) ≡ single 8 place
+  pub labels-are : (place : ℕ) → place < 512 → row-at sets (label-row + place) ≡ remembered records place
   pub idles : idle sets ≡ true

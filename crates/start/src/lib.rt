@@ -7,6 +7,7 @@ ghost use lib.ListN.{length, replicate};
 ghost use Rattle.places.specs.Sets.{empty, single};
 ghost use Rattle.book.specs.Layout.{count, section, decode};
 ghost use Rattle.book.specs.Refusals.{verdict};
+ghost use Rattle.book.specs.Start.{remembered};
 ghost use Rattle.book.specs.declared.Verdict.the-variants.{Accepted};
 ghost use Rattle.monitor.specs.Call.{script};
 ghost use Rattle.machine.specs.Script.{prices-start, counts-start, script-bytes, script-of, Runnable};
@@ -76,12 +77,31 @@ fn own_labels(sets: &mut Sets)
     }
 }
 
-// Fills the sets of a script whose cells are present at these places. They are lent empty. The slice tells the proof how many they are.
-pub fn start_sets(code: &Script, present: [u64; 8], sets: &mut Sets)
-    requires { ⌜ Runnable (now code) × (now sets ≡ replicate set-rows (empty 8)) ⌝ }
-    ensures { λ _. ⌜ SetsOf (script-of (now (code .entry))) present (now (sets .exit)) ⌝ }
+// Makes each cell's label the one that the book has for it, from the last record to the first, and its own place alone elsewhere.
+fn start_labels(file: &[u8], sets: &mut Sets)
+    requires { ⌜ (verdict (now file) ≡ Accepted) × (now sets ≡ replicate set-rows (empty 8)) ⌝ }
+    ensures { λ _. ⌜ (length (now (sets .exit)) ≡ set-rows)
+        × ((place : ℕ) → place < 512 → row-at (now (sets .exit)) (label-row + place) ≡ remembered (decode (now (file .entry)) .labels) place)
+        × (row-at (now (sets .exit)) posting-row ≡ empty 8) ⌝ }
 {
     own_labels(sets);
+    let section = book::label_section(file);
+    let start = section.start;
+    let mut label = section.count;
+    while 0 < label {
+        label -= 1;
+        let at = start + label * 66;
+        let place = label_records::place_at(file, at);
+        sets[machine::LABELS + place] = label_records::label_at(file, at);
+    }
+}
+
+// Fills the sets of a book's script whose cells are present at these places. They are lent empty. The slice tells the proof how many they are.
+pub fn start_sets(file: &[u8], code: &Script, present: [u64; 8], sets: &mut Sets)
+    requires { ⌜ (verdict (now file) ≡ Accepted) × Runnable (now code) × (now sets ≡ replicate set-rows (empty 8)) ⌝ }
+    ensures { λ _. ⌜ SetsOf (script-of (now (code .entry))) (decode (now (file .entry)) .labels) present (now (sets .exit)) ⌝ }
+{
+    start_labels(file, sets);
     sets[machine::PRESENT] = present;
     sets[machine::PUBLIC] = rights::public_set(code);
     machine::store_users(sets, machine::READ, rights::right_sets(code, 1));

@@ -1,5 +1,7 @@
 pub mod Trailer
+pub mod Rising
 pub mod Cells
+pub mod Labels
 pub mod Files
 pub mod Books
 pub mod Rewritten

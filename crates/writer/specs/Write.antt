@@ -26,17 +26,18 @@ unfoldable pub written-values : Written → WrittenValues
 written-values (writtens.Refused number index) = record { number = number; index = index; bytes = 0 }
 written-values (writtens.Wrote bytes) = record { number = 0; index = 0; bytes = bytes }
 
--- 1: 512 amounts, 8 presence words, at least 60,000 bytes of output
-abbrev pub write-fits : List ℤ → List ℕ → List ℕ → Bool
-write-fits amounts presence out = eqb (length amounts) 512 && (eqb (length presence) 8 && leb 60000 (length out))
+-- 1: 512 amounts, 8 presence words, 4,096 label words, at least 60,000 bytes of output
+abbrev pub write-fits : List ℤ → List ℕ → List ℕ → List ℕ → Bool
+write-fits amounts presence labels out =
+    eqb (length amounts) 512 && (eqb (length presence) 8 && (eqb (length labels) 4096 && leb 60000 (length out)))
 
--- refusal 1, then 2 to 10
-unfoldable pub write-verdict : List ℕ → List ℤ → List ℕ → List ℕ → Verdict
-write-verdict file amounts presence out = and-then (need 1 (write-fits amounts presence out)) (verdict file)
+-- refusal 1, then 2 to 10 and 32
+unfoldable pub write-verdict : List ℕ → List ℤ → List ℕ → List ℕ → List ℕ → Verdict
+write-verdict file amounts presence labels out = and-then (need 1 (write-fits amounts presence labels out)) (verdict file)
 
--- the book with its cells replaced
-unfoldable pub rewritten : (file : List ℕ) (amounts : List ℤ) (presence : List ℕ) → List ℕ
-rewritten file amounts presence = encode (with-cells amounts presence (decode file))
+-- the book with its cells and labels replaced, as version 2
+unfoldable pub rewritten : (file : List ℕ) (amounts : List ℤ) (presence labels : List ℕ) → List ℕ
+rewritten file amounts presence labels = encode (with-cells amounts presence labels (decode file))
 
 -- the answer: the length written, or the refusal
 abbrev pub write-answer : Verdict → List ℕ → Written
@@ -48,10 +49,10 @@ pub record WriteCall : Type 0 where
   pub answer : Written
   pub out : List ℕ
 
-unfoldable pub write-call : (file : List ℕ) (amounts : List ℤ) (presence out : List ℕ) → WriteCall
-write-call file amounts presence out =
-    let v : Verdict = write-verdict file amounts presence out in
-    let new : List ℕ = rewritten file amounts presence in
+unfoldable pub write-call : (file : List ℕ) (amounts : List ℤ) (presence labels out : List ℕ) → WriteCall
+write-call file amounts presence labels out =
+    let v : Verdict = write-verdict file amounts presence labels out in
+    let new : List ℕ = rewritten file amounts presence labels in
     record {
       answer = write-answer v new;
       out = where-accepted v (new ++ drop (length new) out) out;
@@ -60,8 +61,8 @@ write-call file amounts presence out =
 -- what `write` ensures of its answer, in the paper's numbers: those of its verdict, and the length of the new book where that accepts
 abbrev pub WriteValues : Type 0
 WriteValues =
-    (file : List ℕ) (amounts : List ℤ) (presence out o : List ℕ) (r : Written)
-    → record { answer = r; out = o } ≡ write-call file amounts presence out
-    → let v : Verdict = write-verdict file amounts presence out in
+    (file : List ℕ) (amounts : List ℤ) (presence labels out o : List ℕ) (r : Written)
+    → record { answer = r; out = o } ≡ write-call file amounts presence labels out
+    → let v : Verdict = write-verdict file amounts presence labels out in
     let told : VerdictValues = verdict-values v in
-    written-values r ≡ record { number = told .number; index = told .index; bytes = where-accepted v (length (rewritten file amounts presence)) 0 }
+    written-values r ≡ record { number = told .number; index = told .index; bytes = where-accepted v (length (rewritten file amounts presence labels)) 0 }

@@ -14,6 +14,8 @@ use reference::writer;
 pub struct Outcome {
     pub explained: Explained,
     pub took_back: bool,
+    /// How many label records the book for a second day had, if there was one.
+    pub second_day: Option<usize>,
 }
 
 /// Memory for one case after another, for each of the two.
@@ -48,9 +50,34 @@ impl Lent {
         self.soil(&mut random, trace);
         self.check_run(&file, budget)?;
         self.lend();
-        let outcome = self.check_explain(&file, budget)?;
-        self.check_write(&mut random, &file)?;
+        let mut outcome = self.check_explain(&file, budget)?;
+        if random.chance(30) {
+            outcome.second_day = self.check_second_day(&mut random, &file)?;
+        } else {
+            self.check_write(&mut random, &file)?;
+        }
         Ok(outcome)
+    }
+
+    /// Writes what the run has left, and puts the written book to the loader and
+    /// the runner. Gives how many label records it has; nothing after a refusal.
+    fn check_second_day(
+        &mut self,
+        random: &mut Random,
+        file: &[u8],
+    ) -> Result<Option<usize>, String> {
+        let Answered { number, length, .. } = self.write(random, file, 60_000)?;
+        if number != 0 {
+            return Ok(None);
+        }
+        let next = self.expected_out[..length as usize].to_vec();
+        self.check_load(random, &next)?;
+        let budget = budget(random);
+        let trace = trace_length(random);
+        self.soil(random, trace);
+        self.check_run(&next, budget)?;
+        let count = &next[next.len() - 38..];
+        Ok(Some(usize::from(count[0]) + 256 * usize::from(count[1])))
     }
 
     fn check_run(&mut self, file: &[u8], budget: u32) -> Result<(), String> {
@@ -84,6 +111,7 @@ impl Lent {
         Ok(Outcome {
             explained: found,
             took_back,
+            second_day: None,
         })
     }
 
@@ -103,29 +131,44 @@ impl Lent {
         self.compare("load")
     }
 
-    /// Writes the cells that the run has left, or random ones.
+    /// Writes the cells and labels that the run has left, or random ones.
     fn check_write(&mut self, random: &mut Random, file: &[u8]) -> Result<(), String> {
         if random.chance(50) {
             self.soil(random, 0);
         }
         let length = random.weighted(&[(95, 60_000), (3, 60_009), (1, 59_999), (1, 0)]);
+        self.write(random, file, length).map(|_| ())
+    }
+
+    /// Writes to an output of this length, and gives the answer.
+    fn write(
+        &mut self,
+        random: &mut Random,
+        file: &[u8],
+        length: usize,
+    ) -> Result<Answered, String> {
         let junk = random.word() as u8;
         for out in [&mut self.expected_out, &mut self.found_out] {
             out.clear();
             out.resize(length, junk);
         }
         let Memory {
-            amounts, presence, ..
+            amounts,
+            presence,
+            labels,
+            ..
         } = &self.expected;
         let expected = written(writer::write(
             file,
             amounts,
             presence,
+            labels,
             &mut self.expected_out,
         ));
-        let found = proved::write(file, amounts, presence, &mut self.found_out);
+        let found = proved::write(file, amounts, presence, labels, &mut self.found_out);
         same("write: answer", &expected, &found)?;
-        same_items("write: output", &self.expected_out, &self.found_out)
+        same_items("write: output", &self.expected_out, &self.found_out)?;
+        Ok(expected)
     }
 
     /// Draws junk, at most one of whose lengths is not as it should be, and lends
@@ -147,6 +190,9 @@ impl Lent {
         let junk = random.word();
         memory.labels.clear();
         memory.labels.resize(labels, junk);
+        if random.chance(50) {
+            draw_labels(random, &mut memory.labels);
+        }
         memory.trace.clear();
         memory.trace.resize(trace, junk as u8);
         self.lend();
@@ -179,9 +225,24 @@ impl Lent {
     }
 }
 
+/// Own places for most cells, and other labels for some.
+fn draw_labels(random: &mut Random, labels: &mut [u64]) {
+    for (place, label) in labels.chunks_exact_mut(8).take(512).enumerate() {
+        label.copy_from_slice(&Places::single(place).0);
+    }
+    for _ in 0..random.below(40) {
+        let word = random.below(labels.len());
+        let bit = 1 << random.below(64);
+        labels[word] = random.pick(&[0, 0, bit, u64::MAX]);
+    }
+}
+
 /// A book's file, of which one in four is damaged.
 fn file(random: &mut Random) -> Vec<u8> {
-    let book = generate::often_failing(random);
+    let book = match random.chance(40) {
+        true => generate::often_failing(random),
+        false => generate::of_either_version(random),
+    };
     if random.chance(25) {
         return generate::damaged(random, &book);
     }

@@ -25,13 +25,17 @@ const STACK: usize = 256 << 20;
 /// Counts over cases.
 #[derive(Default)]
 struct Tally {
-    /// How many runs ended with each number: 0 finished, 1 to 10 refused, 21 to
-    /// 31 stopped.
+    /// How many runs ended with each number: 0 finished, 1 to 10 and 32 refused,
+    /// 21 to 31 stopped.
     ends: BTreeMap<u32, u64>,
     /// How many explained runs named a place.
     named: u64,
     /// How many runs took a posting back.
     took_back: u64,
+    /// How many books were written for a second day and run, and how many of
+    /// these have label records.
+    second_days: u64,
+    with_labels: u64,
 }
 
 impl Tally {
@@ -40,6 +44,8 @@ impl Tally {
         *self.ends.entry(explained.number).or_default() += 1;
         self.named += u64::from(explained.place != NO_PLACE);
         self.took_back += u64::from(outcome.took_back);
+        self.second_days += u64::from(outcome.second_day.is_some());
+        self.with_labels += u64::from(outcome.second_day > Some(0));
     }
 
     fn add(&mut self, other: Tally) {
@@ -48,6 +54,8 @@ impl Tally {
         }
         self.named += other.named;
         self.took_back += other.took_back;
+        self.second_days += other.second_days;
+        self.with_labels += other.with_labels;
     }
 }
 
@@ -80,6 +88,8 @@ fn compare_books(cases: u64, seed: u64) -> bool {
     }
     println!("  {} explained runs named a place", tally.named);
     println!("  {} runs took a posting back", tally.took_back);
+    let (second_days, with_labels) = (tally.second_days, tally.with_labels);
+    println!("  {second_days} second days were run, {with_labels} of them with label records");
     true
 }
 

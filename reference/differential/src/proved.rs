@@ -51,6 +51,8 @@ extern "C" {
         amounts_len: usize,
         presence: *const u64,
         presence_len: usize,
+        labels: *const u64,
+        labels_len: usize,
         out: *mut u8,
         out_len: usize,
     ) -> Answered;
@@ -104,7 +106,13 @@ pub fn load(
     }
 }
 
-pub fn write(file: &[u8], amounts: &[i32], presence: &[u64], out: &mut [u8]) -> Answered {
+pub fn write(
+    file: &[u8],
+    amounts: &[i32],
+    presence: &[u64],
+    labels: &[u64],
+    out: &mut [u8],
+) -> Answered {
     // SAFETY: as for `run`.
     unsafe {
         kagyurma_write(
@@ -114,6 +122,8 @@ pub fn write(file: &[u8], amounts: &[i32], presence: &[u64], out: &mut [u8]) -> 
             amounts.len(),
             presence.as_ptr(),
             presence.len(),
+            labels.as_ptr(),
+            labels.len(),
             out.as_mut_ptr(),
             out.len(),
         )

@@ -1,8 +1,9 @@
 //! Books to start from, and ways to spoil their files.
 
-use crate::book::{Book, Cell, Node, Region};
+use crate::book::{Book, Cell, LabelRecord, Node, Region};
 use crate::builder::Builder;
 use crate::decode::SECTIONS;
+use crate::places::Places;
 
 /// An accepted book of 236 bytes with three records or more in every section.
 ///
@@ -60,6 +61,27 @@ pub(super) fn full() -> Book {
     b.book
 }
 
+/// The book with so many label records of many sorts, from place 0 on.
+pub(super) fn labelled(book: Book, count: usize) -> Book {
+    let labels = Some((0..count).map(label).collect());
+    Book { labels, ..book }
+}
+
+/// A label record that tells its place.
+pub(super) fn label(place: usize) -> LabelRecord {
+    let own = Places::single(place % 512);
+    let other = Places::single((place + 77) % 512);
+    let label = match place % 5 {
+        0 => own.union(&other),
+        1 => Places::EMPTY,
+        2 => Places([u64::MAX; 8]),
+        3 => other,
+        _ => Places(std::array::from_fn(|word| (place * 8 + word) as u64)),
+    };
+    let place = place as u16;
+    LabelRecord { place, label }
+}
+
 /// Adds commands until there are `count` nodes, each "the one before, then the
 /// one before", so that the number of ways down doubles with each. Gives the
 /// last.
@@ -99,7 +121,8 @@ pub(super) fn resized(mut book: Book, section: usize, count: usize) -> Book {
         2 => resize(&mut book.rights, count),
         3 => resize(&mut book.nodes, count),
         4 => resize(&mut book.programs, count),
-        _ => resize(&mut book.triggers, count),
+        5 => resize(&mut book.triggers, count),
+        _ => return labelled(book, count),
     }
     book
 }
@@ -109,17 +132,19 @@ fn resize<T: Copy>(records: &mut Vec<T>, count: usize) {
     records.resize(count, last);
 }
 
-/// Where each section starts in the book's file; then where the trailer does.
-pub(super) fn starts(book: &Book) -> [usize; 7] {
-    let mut starts = [0; 7];
+/// Where each section starts in the book's file; then where the last one ends:
+/// the trailer or, in version 2, the seventh pair follows.
+pub(super) fn starts(book: &Book) -> [usize; 8] {
+    let mut starts = [0; 8];
     for (section, (count, (_, size))) in book.counts().into_iter().zip(SECTIONS).enumerate() {
         starts[section + 1] = starts[section] + count * size;
     }
     starts
 }
 
-/// In a record of each section, a byte that has to be 0.
-const RESERVED: [usize; 6] = [3, 5, 3, 14, 1, 3];
+/// In a record of each section, a byte that has to be 0, or of a label record a
+/// byte of the place that may not gain 8.
+const RESERVED: [usize; 7] = [3, 5, 3, 14, 1, 3, 1];
 
 /// Where such a byte of a record stands in the book's file.
 pub(super) fn reserved(book: &Book, section: usize, index: usize) -> usize {

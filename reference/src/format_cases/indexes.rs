@@ -7,7 +7,7 @@ use crate::decode::SECTIONS;
 
 pub(super) fn files() -> Vec<Vec<u8>> {
     let mut files = Vec::new();
-    for (section, (most, _)) in SECTIONS.into_iter().enumerate() {
+    for (section, (most, _)) in SECTIONS.into_iter().take(6).enumerate() {
         let book = resized(small(), section, most);
         let file = book.encode();
         for index in [0, most / 2, 3 * most / 4, most - 1] {

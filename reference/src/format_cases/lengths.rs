@@ -37,7 +37,7 @@ fn lengthened(book: &Book) -> Vec<Vec<u8>> {
         let mut longer = book.encode();
         longer.resize(longer.len() + more, 0);
         files.push(longer);
-        for (section, at) in starts(book).into_iter().enumerate() {
+        for (section, at) in starts(book).into_iter().take(7).enumerate() {
             let mut file = book.encode();
             for earlier in 0..section {
                 let pair = file.len() - TRAILER + 8 + 4 * earlier;
@@ -69,7 +69,7 @@ fn without_records() -> Vec<Vec<u8>> {
 
 /// A trailer without records whose distances and length field are for a file
 /// of this length, after zeros; at least the trailer.
-fn empty(length: usize) -> Vec<u8> {
+pub(super) fn empty(length: usize) -> Vec<u8> {
     let mut trailer = Book::default().encode();
     for section in 0..6 {
         let at = 8 + 4 * section;

@@ -1,7 +1,7 @@
 //! Lent lengths: refusal 1, for the loader and the writer apart.
 
-use super::base::{reserved, small, with_byte};
-use super::{Case, Lent};
+use super::base::{labelled, reserved, small, with_byte};
+use super::{Case, Labels, Lent};
 
 pub(super) fn cases() -> Vec<Case> {
     let good = small().encode();
@@ -9,16 +9,34 @@ pub(super) fn cases() -> Vec<Case> {
     let mut cases = Vec::new();
     for (number, lent) in neighbours().into_iter().enumerate() {
         cases.push(Case {
-            file: good.clone(),
             lent,
-            seed: number as u32,
+            ..Case::ample(good.clone(), number as u32, Labels::Left)
         });
     }
     for lent in far() {
         for (file, seed) in [(&good, 0), (&good, u32::MAX), (&bad, 0), (&Vec::new(), 1)] {
-            let file = file.clone();
-            cases.push(Case { file, lent, seed });
+            cases.push(Case {
+                lent,
+                ..Case::ample(file.clone(), seed, Labels::Left)
+            });
         }
+    }
+    cases
+}
+
+/// The same with label records, good and bad, and with labels to be drawn.
+pub(super) fn cases_of_version_2() -> Vec<Case> {
+    let book = labelled(small(), 4);
+    let good = book.encode();
+    let bad = with_byte(&good, reserved(&book, 6, 2), 8);
+    let mut cases = Vec::new();
+    for (number, lent) in neighbours().into_iter().chain(far()).enumerate() {
+        let file = if number % 5 == 4 { &bad } else { &good };
+        let labels = [Labels::Left, Labels::Drawn, Labels::FewDrawn][number % 3];
+        cases.push(Case {
+            lent,
+            ..Case::ample(file.clone(), number as u32, labels)
+        });
     }
     cases
 }

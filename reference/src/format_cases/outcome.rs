@@ -1,6 +1,6 @@
 //! What a case comes to.
 
-use super::Case;
+use super::{Case, Labels};
 use crate::book::{Book, Refusal};
 use crate::case_lines::{digest_of_amounts, digest_of_bytes, digest_of_words, Draws};
 use crate::places::Places;
@@ -42,8 +42,13 @@ impl Outcome {
         };
         let loaded = load(&case.file, &mut memory);
         let mut output = vec![OUTPUT; case.lent.output as usize];
-        let (amounts, presence) = cells(case, &memory);
-        let written = write(&case.file, &amounts, &presence, &mut output);
+        let Memory {
+            amounts,
+            presence,
+            labels,
+            ..
+        } = to_write(case, &memory);
+        let written = write(&case.file, &amounts, &presence, &labels, &mut output);
         Outcome {
             refusal: loaded.as_ref().err().copied(),
             amounts: digest_of_amounts(&memory.amounts),
@@ -78,15 +83,22 @@ impl fmt::Display for Outcome {
     }
 }
 
-/// The cells to write: as many as are lent, from the seed; or those loaded.
-fn cells(case: &Case, memory: &Memory) -> (Vec<i32>, Vec<u64>) {
+/// The cells and labels to write: as many as are lent, from the seed; or those
+/// loaded.
+fn to_write(case: &Case, loaded: &Memory) -> Memory {
+    let mut memory = loaded.clone();
     if case.seed == 0 {
-        return (memory.amounts.clone(), memory.presence.clone());
+        return memory;
     }
     let mut draws = Draws::new(case.seed);
-    let amounts = draws.amounts(case.lent.amounts.into());
-    let presence = draws.words(case.lent.presence.into());
-    (amounts, presence)
+    memory.amounts = draws.amounts(case.lent.amounts.into());
+    memory.presence = draws.words(case.lent.presence.into());
+    match case.labels {
+        Labels::Left => {}
+        Labels::Drawn => memory.labels = draws.words(case.lent.labels.into()),
+        Labels::FewDrawn => draws.few_labels(&mut memory.labels),
+    }
+    memory
 }
 
 fn rights(book: &Book) -> u64 {

@@ -20,7 +20,7 @@ pub(super) fn files() -> Vec<Vec<u8>> {
 /// Every byte of every record of the small book, nodes included.
 fn bytes() -> Vec<Vec<u8>> {
     let file = small().encode();
-    let records = starts(&small())[6];
+    let records = starts(&small())[7];
     (0..records)
         .flat_map(|at| {
             let (up, down) = (file[at].wrapping_add(1), file[at].wrapping_sub(1));

@@ -6,7 +6,7 @@ use crate::decode::SECTIONS;
 
 pub(super) fn files() -> Vec<Vec<u8>> {
     let mut files = vec![full().encode(), full().encode()];
-    for (section, (most, _)) in SECTIONS.into_iter().enumerate() {
+    for (section, (most, _)) in SECTIONS.into_iter().take(6).enumerate() {
         for count in [1, 2, most, most + 1] {
             files.push(resized(small(), section, count).encode());
         }
@@ -69,7 +69,7 @@ fn moved(book: &Book, section: usize, direction: isize) -> Vec<u8> {
     let (size, next_size) = (SECTIONS[section].1, SECTIONS[section + 1].1);
     let bytes = direction * size.max(next_size) as isize;
     let file = book.encode();
-    let pair = starts(book)[6] + 8 + 4 * section;
+    let pair = starts(book)[7] + 8 + 4 * section;
     let file = plus(&file, pair + 2, bytes / size as isize);
     let file = plus(&file, pair + 4, -bytes);
     plus(&file, pair + 6, -bytes / next_size as isize)

@@ -10,7 +10,7 @@ pub(super) fn files() -> Vec<Vec<u8>> {
     for at in trailer..trailer + 8 {
         files.extend(with_bytes(&whole, at, &around(whole[at])));
     }
-    for (section, (most, size)) in SECTIONS.into_iter().enumerate() {
+    for (section, (most, size)) in SECTIONS.into_iter().take(6).enumerate() {
         let at = trailer + 8 + 4 * section;
         files.extend(with_words(&whole, at, &[0, 36, 65_535]));
         let most = most as u16;
@@ -28,7 +28,7 @@ fn around(byte: u8) -> [u8; 8] {
 
 /// The file with other values in a field of 16 bits: these, one up, one down,
 /// and more in the high byte.
-fn with_words(file: &[u8], at: usize, values: &[u16]) -> Vec<Vec<u8>> {
+pub(super) fn with_words(file: &[u8], at: usize, values: &[u16]) -> Vec<Vec<u8>> {
     let here = word(file, at);
     let near = [here + 1, here - 1, here + 256, here + 32_768];
     let others = values.iter().filter(|&&value| value != here);

@@ -1,6 +1,7 @@
 //! Files that are wrong, or just right, in one of many ways.
 
-use crate::book::{Book, Cell, Node, Program, Region, Right, Trigger};
+use crate::book::{Book, Cell, LabelRecord, Node, Program, Region, Right, Trigger};
+use crate::places::Places;
 use crate::random::Random;
 
 /// The file of a book after some damage. A few such files are still accepted.
@@ -13,8 +14,9 @@ pub fn damaged(random: &mut Random, book: &Book) -> Vec<u8> {
         damage_records(random, &mut book);
     }
     let mut file = book.encode();
+    let tail = if book.labels.is_some() { 40 } else { 36 };
     for _ in 0..random.below(3) {
-        damage_bytes(random, &mut file);
+        damage_bytes(random, &mut file, tail);
     }
     file
 }
@@ -31,6 +33,13 @@ fn edge(random: &mut Random) -> u8 {
 }
 
 fn damage_records(random: &mut Random, book: &mut Book) {
+    if let Some(labels) = &mut book.labels {
+        match random.below(6) {
+            0 => return shuffle(random, labels, 512),
+            1..=2 => return change(random, labels, damage_label),
+            _ => {}
+        }
+    }
     match random.below(12) {
         0 => shuffle(random, &mut book.cells, 512),
         1 => shuffle(random, &mut book.regions, 64),
@@ -138,12 +147,22 @@ fn damage_trigger(random: &mut Random, trigger: &mut Trigger) {
     }
 }
 
-fn damage_bytes(random: &mut Random, file: &mut Vec<u8>) {
+fn damage_label(random: &mut Random, record: &mut LabelRecord) {
+    match random.below(4) {
+        0 => record.label = Places::single(usize::from(record.place) % 512),
+        1 => record.place += 512,
+        2 => record.place = random.below(520) as u16,
+        _ => record.place = random.pick(&[0, 511, 512, u16::MAX]),
+    }
+}
+
+/// `tail` is the length of the pairs and the trailer.
+fn damage_bytes(random: &mut Random, file: &mut Vec<u8>, tail: usize) {
     if file.is_empty() {
         return;
     }
     let at = random.below(file.len());
-    let in_trailer = file.len() - 1 - random.below(file.len().min(36));
+    let in_trailer = file.len() - 1 - random.below(file.len().min(tail));
     match random.below(8) {
         0 => file[at] ^= 1 << random.below(8),
         1 => file[at] = edge(random),

@@ -82,7 +82,7 @@ pub(super) struct Guess {
 }
 
 impl Guess {
-    /// The start of a run.
+    /// The start of a run of this world's own book.
     pub(super) fn new(world: &World) -> Guess {
         let mut guess = Guess {
             context: Label::EMPTY,
@@ -93,16 +93,34 @@ impl Guess {
             writes: [0; 8],
             reactions: [Reaction::default(); 8],
         };
+        for record in world.labels.iter().flatten() {
+            let bit = world.bit(record.place.into());
+            let label = Label::exactly(world.bits(&record.label));
+            guess.cells[bit] = match bit < 24 {
+                true => label,
+                // Other cells of the table share the bit.
+                false => guess.cells[bit].either(label),
+            };
+        }
+        guess.begin_day(world);
+        guess
+    }
+
+    /// The start of a run with the cells that another left.
+    pub(super) fn begin_day(&mut self, world: &World) {
+        self.public = 0;
+        self.reads = [0; 8];
+        self.writes = [0; 8];
+        self.reactions = [Reaction::default(); 8];
         for &Right { kind, user, region } in &world.rights {
             let user = usize::from(user);
             let set = match kind {
-                0 => &mut guess.public,
-                1 => &mut guess.reads[user],
-                _ => &mut guess.writes[user],
+                0 => &mut self.public,
+                1 => &mut self.reads[user],
+                _ => &mut self.writes[user],
             };
             *set |= world.covers[usize::from(region)];
         }
-        guess
     }
 
     pub(super) fn add_trigger(&mut self, number: usize, event: u8, region: Spots, writes: Spots) {

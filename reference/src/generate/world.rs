@@ -1,7 +1,8 @@
 //! Cells, regions and rights, and the few cells that scripts work on.
 
 use super::Size;
-use crate::book::{Cell, Region, Right};
+use crate::book::{Cell, LabelRecord, Region, Right};
+use crate::places::{place, Places};
 use crate::random::Random;
 
 /// A set of spots: bit n for spot n. Each table also has a bit for all its
@@ -31,6 +32,8 @@ pub(super) struct World {
     /// By region, the spots in it.
     pub(super) covers: Vec<Spots>,
     pub(super) rights: Vec<Right>,
+    /// None for a book of version 1.
+    pub(super) labels: Option<Vec<LabelRecord>>,
     /// The users that scripts show amounts to.
     pub(super) clients: [u8; 4],
     /// Percent of choices made without regard to the rules.
@@ -51,19 +54,49 @@ impl World {
             spots,
             regions,
             rights: Vec::with_capacity(64),
+            labels: None,
             clients: clients(random),
             careless: random.weighted(&[(6, 0), (4, 2), (3, 6), (1, 25)]),
             failing,
         };
-        world.add_public(random);
-        world.add_reads(random);
-        world.add_writes(random);
-        while size == Size::Full && world.rights.len() < 64 {
-            let client = random.pick(&world.clients);
-            let region = random.below(world.regions.len());
-            world.add_right(random.between(1, 2) as u8, client, region);
-        }
+        world.add_rights(random, size);
         world
+    }
+
+    /// Other rights, and now and then other regions too.
+    pub(super) fn change_rights(&mut self, random: &mut Random, size: Size) {
+        if random.chance(30) {
+            self.regions = regions(random, size, &self.spots);
+            let covers = self.regions.iter().map(|region| cover(region, &self.spots));
+            self.covers = covers.collect();
+        }
+        self.rights.clear();
+        self.add_rights(random, size);
+    }
+
+    fn add_rights(&mut self, random: &mut Random, size: Size) {
+        self.add_public(random);
+        self.add_reads(random);
+        self.add_writes(random);
+        while size == Size::Full && self.rights.len() < 64 {
+            let client = random.pick(&self.clients);
+            let region = random.below(self.regions.len());
+            self.add_right(random.between(1, 2) as u8, client, region);
+        }
+    }
+
+    /// The bit for a place: its spot's, or that of its table.
+    pub(super) fn bit(&self, place_of: usize) -> usize {
+        let is_here = |spot: &Spot| place(spot.table, spot.owner, spot.line) == place_of;
+        let spot = self.spots.iter().position(is_here);
+        spot.unwrap_or(24 + place_of / 64)
+    }
+
+    /// The bits for a set of places.
+    pub(super) fn bits(&self, places: &Places) -> Spots {
+        places
+            .members()
+            .fold(0, |bits, at| bits | 1 << self.bit(at))
     }
 
     /// User 0 mostly, as only that user's grants and revokes pass.

@@ -1,7 +1,8 @@
 //! From a text to its book.
 
-use crate::book::{kind, Book, Cell, Node, Program, Region, Right, Trigger};
-use crate::places::place;
+use super::label::label;
+use crate::book::{kind, Book, Cell, LabelRecord, Node, Program, Region, Right, Trigger};
+use crate::places::{place, Places};
 use std::collections::HashMap;
 use std::fmt::{Display, Formatter};
 
@@ -78,6 +79,16 @@ const NODES: [(&str, &str); 21] = [
     ("raise", "raise VARIABLE by REGION"),
 ];
 
+/// The forms of a sentence that only books of version 2 have. Their words may
+/// also be names, as they may be in a text for version 1.
+const LATER_SENTENCES: [(&str, &str); 2] = [
+    (
+        "label",
+        "label TABLE OWNER LINE = PLACE PLACE .. (or: nothing)",
+    ),
+    ("version", "version 2"),
+];
+
 /// The words inside the forms, which cannot be names either.
 const INNER_WORDS: [&str; 11] = [
     "table", "owners", "owner", "lines", "line", "to", "else", "do", "at", "from", "by",
@@ -113,19 +124,23 @@ impl<'text> Assembler<'text> {
             ["program", user, root] => self.program(user, root),
             ["trigger", region, "put", user, body] => self.trigger(region, 1, user, body),
             ["trigger", region, "clear", user, body] => self.trigger(region, 2, user, body),
-            [first, ..] => Err(match form_of(first, &SENTENCES) {
-                Some(form) => format!("the form is: {form}"),
-                None => format!("no sentence starts with `{first}`"),
-            }),
+            ["label", table, owner, line, "=", ref places @ ..] if !places.is_empty() => {
+                self.label([table, owner, line], places)
+            }
+            ["version", "2"] => {
+                self.book.labels.get_or_insert_default();
+                Ok(())
+            }
+            [first, ..] => Err(no_sentence(first)),
         }
     }
 
     fn cell(&mut self, key: [&str; 3], amount: &str) -> Result<(), String> {
-        let [table, owner, line] = key;
+        let [table, owner, line] = cell_key(key)?;
         let cell = Cell {
-            table: digit("table", table)?,
-            owner: digit("owner", owner)?,
-            line: digit("line", line)?,
+            table,
+            owner,
+            line,
             amount: signed(amount)?,
         };
         let place_of = |cell: &Cell| place(cell.table, cell.owner, cell.line);
@@ -133,6 +148,25 @@ impl<'text> Assembler<'text> {
             return Err("cells stand in rising order of table, owner, line".to_string());
         }
         self.book.cells.push(cell);
+        Ok(())
+    }
+
+    fn label(&mut self, key: [&str; 3], places: &[&str]) -> Result<(), String> {
+        let [table, owner, line] = cell_key(key)?;
+        let place = place(table, owner, line);
+        let label = label(places)?;
+        if label == Places::single(place) {
+            return Err("a cell labelled by its own place alone has no label record".to_string());
+        }
+        let record = LabelRecord {
+            place: place as u16,
+            label,
+        };
+        let records = self.book.labels.get_or_insert_default();
+        if records.last().map(|last| last.place) >= Some(record.place) {
+            return Err("labels stand in rising order of table, owner, line".to_string());
+        }
+        records.push(record);
         Ok(())
     }
 
@@ -391,6 +425,15 @@ impl<'text> Assembler<'text> {
     }
 }
 
+/// The message for words that follow no sentence's form.
+fn no_sentence(first: &str) -> String {
+    let form = form_of(first, &SENTENCES).or_else(|| form_of(first, &LATER_SENTENCES));
+    match form {
+        Some(form) => format!("the form is: {form}"),
+        None => format!("no sentence starts with `{first}`"),
+    }
+}
+
 fn form_of(word: &str, forms: &[(&str, &'static str)]) -> Option<&'static str> {
     forms
         .iter()
@@ -442,6 +485,15 @@ fn number(what: &str, word: &str, last: u8) -> Result<u8, String> {
         return Err(format!("{what} {word} is outside 0-{last}"));
     }
     Ok(value as u8)
+}
+
+/// The table, owner and line of a cell.
+fn cell_key([table, owner, line]: [&str; 3]) -> Result<[u8; 3], String> {
+    Ok([
+        digit("table", table)?,
+        digit("owner", owner)?,
+        digit("line", line)?,
+    ])
 }
 
 /// A table, owner, line or user.

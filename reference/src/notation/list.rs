@@ -1,6 +1,7 @@
 //! From a book to its text.
 
-use crate::book::{kind, Book, Cell, Node, Region, Right};
+use super::label::words;
+use crate::book::{kind, Book, Cell, LabelRecord, Node, Region, Right};
 
 /// The text of an accepted book. Regions are named r0, r1 and so on, nodes
 /// n0, n1 and so on.
@@ -26,12 +27,22 @@ pub fn list(book: &Book) -> String {
         let (region, user, body) = (trigger.region, trigger.user, trigger.body);
         line(format!("trigger r{region} {event} {user} n{body}"));
     }
+    if let Some(labels) = &book.labels {
+        line("version 2".to_string());
+        labels.iter().map(label).for_each(&mut line);
+    }
     text
 }
 
 fn cell(cell: &Cell) -> String {
     let (table, owner, line) = (cell.table, cell.owner, cell.line);
     format!("cell {table} {owner} {line} = {}", cell.amount)
+}
+
+fn label(record: &LabelRecord) -> String {
+    let place = record.place;
+    let (table, owner, line) = (place / 64, place / 8 % 8, place % 8);
+    format!("label {table} {owner} {line} = {}", words(&record.label))
 }
 
 fn region(region: &Region) -> String {

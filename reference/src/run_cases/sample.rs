@@ -6,6 +6,7 @@ use crate::random::Random;
 
 /// Longer files are left out, with few exceptions, to keep the stream short.
 const LONGEST: usize = 700;
+const LONGEST_2: usize = 1_300;
 
 pub(super) fn cases() -> Vec<Case> {
     let mut cases: Vec<Case> = (0..).filter_map(unharmed).take(1_000).collect();
@@ -14,7 +15,27 @@ pub(super) fn cases() -> Vec<Case> {
     cases
 }
 
-// Each of the three has other seeds than those of the format cases.
+/// Books of either version.
+pub(super) fn cases_of_version_2() -> Vec<Case> {
+    let mut cases: Vec<Case> = (0..).filter_map(of_either_version).take(500).collect();
+    cases.extend((0..).filter_map(damaged_of_either_version).take(150));
+    cases
+}
+
+// Each has other seeds than those of the format cases.
+
+fn of_either_version(seed: u64) -> Option<Case> {
+    let mut random = Random::new((8 << 32) + seed);
+    let file = generate::of_either_version(&mut random).encode();
+    (file.len() <= LONGEST_2).then(|| case(&mut random, file))
+}
+
+fn damaged_of_either_version(seed: u64) -> Option<Case> {
+    let mut random = Random::new((9 << 32) + seed);
+    let book = generate::of_either_version(&mut random);
+    let file = generate::damaged(&mut random, &book);
+    (file.len() <= LONGEST_2).then(|| case(&mut random, file))
+}
 
 fn unharmed(seed: u64) -> Option<Case> {
     let mut random = Random::new((3 << 32) + seed);

@@ -1,5 +1,6 @@
 //! Every refusal, with its number and index, at each limit and one past it.
 
+mod labels;
 mod lent;
 mod nodes;
 mod order;

@@ -82,7 +82,8 @@ fn mark_version_and_zeros_are_fixed() {
         assert_eq!(with_byte(at, value), REFUSED_3, "mark byte {at}");
     }
     assert_eq!(with_byte(TRAILER + 4, 0), REFUSED_3);
-    assert_eq!(with_byte(TRAILER + 4, 2), REFUSED_3);
+    assert_eq!(with_byte(TRAILER + 4, 3), REFUSED_3);
+    assert_eq!(with_byte(TRAILER + 4, 255), REFUSED_3);
     for at in TRAILER + 5..TRAILER + 8 {
         assert_eq!(with_byte(at, 1), REFUSED_3, "zero byte {at}");
     }
@@ -157,6 +158,7 @@ fn full() -> Book {
         nodes: vec![SKIP; 1_024],
         programs: vec![PROGRAM; 8],
         triggers: vec![TRIGGER; 8],
+        labels: None,
     }
 }
 

@@ -75,7 +75,7 @@ impl Reasons {
             }
         }
         let without: Vec<u32> = self.without.keys().copied().collect();
-        let others: Vec<u32> = (0..=10).chain(21..=24).chain([28, 30, 31]).collect();
+        let others: Vec<u32> = (0..=10).chain(21..=24).chain([28, 30, 31, 32]).collect();
         assert_eq!(without, others);
         for (number, cases) in &self.without {
             assert!(*cases >= 20, "{number}: {cases} cases");

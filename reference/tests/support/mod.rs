@@ -1,5 +1,6 @@
 //! Running generated books in lent memory.
 
+pub mod chains;
 #[path = "../common/commands.rs"]
 mod commands;
 pub mod coverage;

@@ -33,6 +33,17 @@ pub struct Pairs {
     pub of_nothing: usize,
     /// Those of them of which only one did.
     pub of_nothing_once: usize,
+    /// Pairs of two books of version 1, of one of each, and of two of version 2.
+    pub versions: [usize; 3],
+    /// Pairs whose labels at the start differ.
+    pub relabelled: usize,
+}
+
+/// What a second book may differ in.
+#[derive(Clone, Copy, PartialEq)]
+enum Differing {
+    Cells,
+    CellsAndLabels,
 }
 
 impl Pairs {
@@ -49,6 +60,8 @@ impl Pairs {
             taken_back: 0,
             of_nothing: 0,
             of_nothing_once: 0,
+            versions: [0; 3],
+            relabelled: 0,
         }
     }
 
@@ -56,12 +69,29 @@ impl Pairs {
     pub fn check(&mut self, seed: u64) -> Result<(), String> {
         let mut random = Random::new(seed);
         let book = generate::often_failing(&mut random);
-        let limits = Limits::random(&mut random);
+        self.check_book(&mut random, &book, Differing::Cells)
+    }
+
+    /// The same with a book of either version, and with others that may be of
+    /// the other version, or start with other labels.
+    pub fn check_versions(&mut self, seed: u64) -> Result<(), String> {
+        let mut random = Random::new(seed);
+        let book = generate::of_either_version(&mut random);
+        self.check_book(&mut random, &book, Differing::CellsAndLabels)
+    }
+
+    fn check_book(
+        &mut self,
+        random: &mut Random,
+        book: &Book,
+        differing: Differing,
+    ) -> Result<(), String> {
+        let limits = Limits::random(random);
         self.first
-            .run(&mut random, &book, &book.encode(), limits, Tests::Labelled)?;
-        self.coverage.count(&book, &self.first);
+            .run(random, book, &book.encode(), limits, Tests::Labelled)?;
+        self.coverage.count(book, &self.first);
         let others = self.others();
-        (0..others).try_for_each(|_| self.check_pair(&mut random, &book))
+        (0..others).try_for_each(|_| self.check_pair(random, book, differing))
     }
 
     /// How many books to compare the first one with: more after the ends of which
@@ -79,10 +109,20 @@ impl Pairs {
 
     /// Makes and runs a book that differs in what some group cannot reach; then
     /// says what differs that the group must not see differ.
-    fn check_pair(&mut self, random: &mut Random, book: &Book) -> Result<(), String> {
+    fn check_pair(
+        &mut self,
+        random: &mut Random,
+        book: &Book,
+        differing: Differing,
+    ) -> Result<(), String> {
         let group = group(random, book);
         let reach = reach(book, group, self.first.trace());
-        let other = generate::altered(random, book, &reach);
+        let mut other = generate::altered(random, book, &reach);
+        if differing == Differing::CellsAndLabels {
+            other = generate::relabelled(random, &other, &reach);
+        }
+        self.versions[usize::from(book.version() + other.version() - 2)] += 1;
+        self.relabelled += usize::from(book.start_labels() != other.start_labels());
         let limits = Limits::random(random);
         self.second
             .run(random, &other, &other.encode(), limits, Tests::Labelled)?;
@@ -92,40 +132,12 @@ impl Pairs {
     }
 
     fn compare(&self, group: u8, reach: &Places) -> Result<(), String> {
-        let (first, second) = (self.first.trace(), self.second.trace());
-        // Pairing ends with the shorter trace, so this says that one begins
-        // the other.
-        let pairs = seen(first, group).zip(seen(second, group));
-        for (index, (one, other)) in pairs.enumerate() {
-            if one != other {
-                return Err(format!("record {index}: {one:?} and {other:?}"));
-            }
+        let finished = self.first.finished() && self.second.finished();
+        compare_traces([self.first.trace(), self.second.trace()], group, finished)?;
+        match finished {
+            true => compare_cells(&self.first, &self.second, reach),
+            false => Ok(()),
         }
-        if !self.first.finished() || !self.second.finished() {
-            return Ok(());
-        }
-        let counts = [first, second].map(|trace| seen(trace, group).count());
-        if counts[0] != counts[1] {
-            return Err(format!("finished with {counts:?} records"));
-        }
-        match (0..512).find(|&place| !self.cell_agrees(place, reach)) {
-            Some(place) => Err(format!("cell at place {place}")),
-            None => Ok(()),
-        }
-    }
-
-    /// A cell whose label ends inside the reach, in either run, ends the same
-    /// in both.
-    fn cell_agrees(&self, place: usize, reach: &Places) -> bool {
-        let (one, other) = (&self.first, &self.second);
-        let inside = |lent: &Lent| {
-            let mut words = lent.label(place).iter().zip(&reach.0);
-            words.all(|(word, reach)| word & !reach == 0)
-        };
-        let same = one.holds(place) == other.holds(place)
-            && one.amount(place) == other.amount(place)
-            && one.label(place) == other.label(place);
-        same || !(inside(one) || inside(other))
     }
 
     fn count(&mut self, group: u8) {
@@ -156,9 +168,46 @@ impl Pairs {
     }
 }
 
+/// Says which record differs, if of what a group sees of two traces neither
+/// begins the other; or that they are not the same, where both runs finished.
+pub fn compare_traces(traces: [&[u8]; 2], group: u8, finished: bool) -> Result<(), String> {
+    let [first, second] = traces;
+    // Pairing ends with the shorter trace.
+    let pairs = seen(first, group).zip(seen(second, group));
+    for (index, (one, other)) in pairs.enumerate() {
+        if one != other {
+            return Err(format!("record {index}: {one:?} and {other:?}"));
+        }
+    }
+    let counts = traces.map(|trace| seen(trace, group).count());
+    match finished && counts[0] != counts[1] {
+        true => Err(format!("finished with {counts:?} records")),
+        false => Ok(()),
+    }
+}
+
+/// Says which cell differs of those whose label ends inside the reach in either
+/// run.
+pub fn compare_cells(one: &Lent, other: &Lent, reach: &Places) -> Result<(), String> {
+    let agrees = |&place: &usize| {
+        let inside = |lent: &Lent| {
+            let mut words = lent.label(place).iter().zip(&reach.0);
+            words.all(|(word, reach)| word & !reach == 0)
+        };
+        let same = one.holds(place) == other.holds(place)
+            && one.amount(place) == other.amount(place)
+            && one.label(place) == other.label(place);
+        same || !(inside(one) || inside(other))
+    };
+    match (0..512).find(|place| !agrees(place)) {
+        Some(place) => Err(format!("cell at place {place}")),
+        None => Ok(()),
+    }
+}
+
 /// A set of users, user n as bit n: any at all, or few users with one that the
 /// book may show something to.
-fn group(random: &mut Random, book: &Book) -> u8 {
+pub fn group(random: &mut Random, book: &Book) -> u8 {
     match random.below(10) {
         0 => return 0,
         1..=2 => return random.word() as u8,
@@ -179,14 +228,14 @@ fn has(group: u8, user: u8) -> bool {
 }
 
 /// The records of a trace that a group sees.
-fn seen(trace: &[u8], group: u8) -> impl Iterator<Item = &[u8]> {
+pub fn seen(trace: &[u8], group: u8) -> impl Iterator<Item = &[u8]> {
     trace
         .chunks_exact(8)
         .filter(move |record| record[0] != OUT || has(group, record[1]))
 }
 
 /// The places that a group can come to read in the run with this trace.
-fn reach(book: &Book, group: u8, trace: &[u8]) -> Places {
+pub fn reach(book: &Book, group: u8, trace: &[u8]) -> Places {
     let mut reach = Places::EMPTY;
     let mut add = |region: u8| {
         reach.add(&Places::of_region(&book.regions[usize::from(region)]));

@@ -1,12 +1,13 @@
 -- `book::section_at` meets its contract: the pair of section i stands 28 bytes before the file's end and 4 · i on.
-use mathlib.Core.Path.{_≡_, ap, _∙_}
+use mathlib.Core.Path.{_≡_, sym, ap, _∙_}
 use mathlib.Core.List.{List}
 use Prim.Native.Nat.{ℕ, _+_, _-_, _*_}
 use lib.ListN.{length}
 use borrow.Author.Needs.{needs}
 use native.Mathlib.Omega.{arith}
 use Rattle.book.specs.Bytes.{le16}
-use Rattle.book.specs.Layout.{trailer, distance, count}
+use Rattle.book.specs.Layout.{trailer, pair-start, distance, count}
+use Rattle.book.proofs.Sections.{six-pairs}
 use Rattle.book.proofs.section_at.Statement.{statement}
 use Rattle.book.proofs.section_at.Tie as tie
 
@@ -28,20 +29,25 @@ add-u16-at c = search needs
 u16-at-requires-2 : tie.Need-u16-at-requires-2
 u16-at-requires-2 c κs = search needs
 
+-- where the pair stands
+at : (c : tie.After-u16-at2)
+    → let s : List ℕ = c .before .before .before .args .file .now in
+    let i : ℕ = c .before .before .before .args .i in
+    length s - 28 + 4 * i ≡ pair-start s i
+at c =
+    let s : List ℕ = c .before .before .before .args .file .now in
+    let i : ℕ = c .before .before .before .args .i in
+    let six : length s - 28 + 4 * i ≡ trailer s + 8 + 4 * i = omega arith in
+    six ∙ sym (six-pairs s i (omega arith))
+
 -- the two numbers of the pair
 back : (c : tie.After-u16-at2) → c .before .u16-at .result ≡ distance (c .before .before .before .args .file .now) (c .before .before .before .args .i)
 back c =
-    let s : List ℕ = c .before .before .before .args .file .now in
-    let i : ℕ = c .before .before .before .args .i in
-    let at : length s - 28 + 4 * i ≡ trailer s + 8 + 4 * i = omega arith in
-    c .before .u16-at .ensures .0 ∙ ap (le16 s) at
+    c .before .u16-at .ensures .0 ∙ ap (le16 (c .before .before .before .args .file .now)) (at c)
 
 records : (c : tie.After-u16-at2) → c .u16-at2 .result ≡ count (c .before .before .before .args .file .now) (c .before .before .before .args .i)
 records c =
-    let s : List ℕ = c .before .before .before .args .file .now in
-    let i : ℕ = c .before .before .before .args .i in
-    let at : length s - 28 + 4 * i + 2 ≡ trailer s + 10 + 4 * i = omega arith in
-    c .u16-at2 .ensures .0 ∙ ap (le16 s) at
+    c .u16-at2 .ensures .0 ∙ ap (λ (n : ℕ). le16 (c .before .before .before .args .file .now) (n + 2)) (at c)
 
 sub-t8 : tie.Need-sub-t8
 sub-t8 c = omega (arith, back c)

@@ -1,4 +1,5 @@
 -- `encoder::write_cells` meets its contract: the present cells below `place` are written.
+use mathlib.Core.Path.{refl, _∙_}
 use mathlib.Core.Logic.{⊎-elim}
 use Prim.Native.Nat.{_+_, _-_, _≤_, _<_}
 use lib.IntN.{ℤ, pos}
@@ -7,22 +8,24 @@ use mir.Syntax.{w32}
 use mir.ValLaws.{toZ-ofZ}
 use Rattle.places.specs.Sets.{has}
 use Rattle.book.specs.Records.{cells-format}
+use Rattle.encoder.proofs.Codec.{cells-codec}
 use Rattle.encoder.proofs.Stores.{same-length as stored-length}
-use Rattle.encoder.proofs.Writes.{Writing, writing-none, end-small, writing-absent, writing-present, writing-done}
+use Rattle.encoder.proofs.Writes.{here, Writing, writing-none, end-small, writing-past, writing-more, writing-done}
 use borrow.Author.Needs.{needs}
 use borrow.Author.Tests.{eq-eqb, ne-eqb}
+use native.Mathlib.Nat.{zero-add}
 use native.Mathlib.Omega.{arith}
 use Rattle.encoder.proofs.write_cells.Statement.{statement}
 use Rattle.encoder.proofs.write_cells.Tie as tie
 
 abbrev Inv-loop : tie.InvT-loop
-Inv-loop amounts out₀ presence end₀ place₀ out end place = Writing amounts presence out₀ out end place
+Inv-loop amounts out₀ presence end₀ place₀ out end place = Writing cells-codec (has presence) (here amounts) out₀ 0 out end place
 
 abbrev μ-loop : tie.MeasureT-loop
 μ-loop amounts out₀ presence end₀ place₀ out end place = 512 - place
 
 loop-holds : tie.Need-loop-holds Inv-loop μ-loop
-loop-holds c = writing-none
+loop-holds c = writing-none cells-codec _ _ _ 0 (omega arith)
 
 mul-word : tie.Need-mul-word Inv-loop μ-loop
 mul-word c = search needs
@@ -45,10 +48,11 @@ left c = omega (arith, c .loop-test .taken)
 
 -- there is room for a record at the end
 room : (c : tie.In-loop Inv-loop μ-loop) → c .before .loop .end + 8 ≤ length (c .before .before .before .args .out .now)
+unfolding cells-format
 room c =
     let l = c .before in
     let s = l .before .before in
-    omega (arith, end-small (l .loop .inv), s .pre .1, left c)
+    omega (arith, end-small cells-codec _ _ (l .loop .inv), s .pre .1, left c)
 
 put-cell-requires : tie.Need-put-cell-requires Inv-loop μ-loop
 put-cell-requires c κs =
@@ -76,20 +80,21 @@ loop-again c =
     ⊎-elim
     (λ w.
     rw (w .6, w .7)
-    (writing-present (l .loop .inv) (left t) (w .3 .last .0) (eq-eqb _ 1 (w .0 .taken)) (room t)
+    (writing-more cells-codec _ _ (l .loop .inv) (left t) (w .3 .last .0) (l .loop .end + 8) (eq-eqb _ 1 (w .0 .taken)) refl (room t)
     (rw (toZ-ofZ w32 amount (record { sfits = w .2 .given })) at (w .3 .ensures))))
-    (λ w. rw (w .1, w .2) (writing-absent (l .loop .inv) (left t) (ne-eqb _ 1 (w .0 .left))))
+    (λ w. rw (w .1, w .2) (writing-past cells-codec _ _ (l .loop .inv) (left t) (ne-eqb _ 1 (w .0 .left))))
     (c .if1 .came)
 
 same-length : tie.Need-same-length Inv-loop μ-loop
 same-length c = stored-length (c .before .loop .inv .written .bytes-are)
 
 returns : tie.Need-returns Inv-loop μ-loop
+unfolding cells-format
 returns c =
     let w = c .before .loop .inv in
     let end : 512 ≤ c .before .loop .place = omega arith in
-    let done = writing-done w end in
-    (done .0, done .1, omega (arith, end-small w, w .upto))
+    let done = writing-done cells-codec _ _ w end in
+    (done .0 ∙ zero-add _, done .1, omega (arith, end-small cells-codec _ _ w, w .upto))
 
 pub write-cells-spec : {M : Type 1} → statement M
 write-cells-spec =

@@ -7,7 +7,7 @@ use lib.ListN.{length, set, length-set}
 use lib.Pow.{shl-exact}
 use lib.Dec.{lit<}
 use borrow.Author.Needs.{needs}
-use Rattle.labels.specs.Labels.{own-labels, no-labels}
+use Rattle.labels.specs.Labels.{labels-by, own-labels, no-labels}
 use Rattle.labels.proofs.Labels.{own-turn}
 use Rattle.labels.proofs.own_labels.Statement.{statement}
 use Rattle.labels.proofs.own_labels.Tie as tie
@@ -22,7 +22,7 @@ clear-requires : tie.Need-clear-requires Inv-loop μ-loop
 clear-requires c κs = search needs
 
 loop-holds : tie.Need-loop-holds Inv-loop μ-loop
-unfolding own-labels
+unfolding labels-by
 loop-holds c = (search needs, c .before .before .clear .ensures, c .before .before .clear .kept .0 ∙ c .before .before .before .before .before .pre)
 
 shl-labels : tie.Need-shl-labels Inv-loop μ-loop

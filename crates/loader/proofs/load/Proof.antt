@@ -60,13 +60,12 @@ returns-4 c =
     let fit = lent (sizes (c .before .before .before)) in
     load-refused (s .args .file .now) (s .args .amounts .now) (s .args .presence .now) (s .args .labels .now) fit _ (c .before .before .inspect .ensures) _ _ (c .enum-told2 .given .1)
 
+-- the file's verdict accepts
+accepted : (c : tie.After-enum-told) → verdict (c .before .before .before .before .before .before .before .before .before .args .file .now) ≡ Accepted
+accepted c = sym (c .before .before .inspect .ensures) ∙ c .enum-told .given .1
+
 load-cells-requires : tie.Need-load-cells-requires
-load-cells-requires c κs =
-    let told = c .before in
-    let file : List ℕ = told .before .before .before .before .before .before .before .before .before .args .file .now in
-    let accepted : verdict file ≡ Accepted = sym (told .before .before .inspect .ensures) ∙ told .enum-told .given .1 in
-    let fit = sizes (told .before .before .before) in
-    (accepted, fit .amounts-are)
+load-cells-requires c κs = (accepted (c .before), sizes (c .before .before .before .before) .amounts-are)
 
 slice-aggregate-copy-words : tie.Need-slice-aggregate-copy-words
 slice-aggregate-copy-words c = search needs
@@ -74,8 +73,10 @@ slice-aggregate-copy-words c = search needs
 copy-words-requires : tie.Need-copy-words-requires
 copy-words-requires c κs = search needs
 
-own-labels-requires : tie.Need-own-labels-requires
-own-labels-requires c κs = search needs
+load-labels-requires : tie.Need-load-labels-requires
+load-labels-requires c κs =
+    let told = c .before .before .before .before .before .before .before .before .before in
+    (accepted told, sizes (told .before .before .before) .labels-are)
 
 same-length : tie.Need-same-length
 same-length c = search needs
@@ -93,7 +94,7 @@ returns-5 c =
     let fit = lent (sizes (told .before .before .before)) in
     let cells = c .before .before .before .before .before .before .before .before .before .before .load-cells .ensures in
     let presence = c .before .before .before .before .before .before .copy-words .ensures in
-    let labels = c .before .before .own-labels .ensures in
+    let labels = c .before .before .load-labels .ensures in
     load-accepted (s .args .file .now) (s .args .amounts .now) (s .args .presence .now) (s .args .labels .now) fit _ (told .before .before .inspect .ensures) _ _ _
     (told .enum-told .given .1)
     (cells .0)
@@ -114,7 +115,7 @@ load-spec =
     load-cells-requires
     slice-aggregate-copy-words
     copy-words-requires
-    own-labels-requires
+    load-labels-requires
     same-length
     same-length-2
     same-length-3

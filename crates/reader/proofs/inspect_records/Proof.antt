@@ -2,12 +2,12 @@
 use mathlib.Core.Path.{_≡_, sym, ap, _∙_}
 use mathlib.Core.List.{List}
 use Prim.Native.Nat.{ℕ, _≤_}
-use Rattle.book.specs.Layout.{count, decode}
-use Rattle.book.specs.Refusals.{first, bad-node, book-verdict}
+use Rattle.book.specs.Layout.{count, label-section, decode}
+use Rattle.book.specs.Refusals.{first, Laid, bad-node, book-verdict}
 use Rattle.book.specs.declared.Section.{Section}
 use Rattle.book.proofs.Accepted.{Sited, laid}
 use Rattle.book.proofs.First.{first-le}
-use Rattle.book.proofs.Verdicts.{passes, stops, blame-passes, blame-stops, regions-verdict, rights-verdict, nodes-verdict, programs-verdict, triggers-verdict, counted}
+use Rattle.book.proofs.Verdicts.{passes, stops, blame-passes, blame-stops, regions-verdict, rights-verdict, nodes-verdict, programs-verdict, triggers-verdict, labels-verdict, counted}
 use borrow.Author.Needs.{needs}
 use native.Mathlib.Omega.{arith}
 use Rattle.reader.proofs.inspect_records.Statement.{statement}
@@ -136,8 +136,11 @@ nodes-good c =
     let none : c .before .before .section-at4 .result .count ≤ c .before .before .before .first-bad-node .result = c .if4 .left in
     omega (arith, none, nodes (c .before .before), c .before .before .before .first-bad-node .ensures, first-le (bad-node (decode (file-4 c))) (count (file-4 c) 3))
 
+laid-5 : (c : tie.Else5) → Laid (file-5 c)
+laid-5 c = c .before .before .before .before .before .before .before .before .before .before .before .before .before .before .before .before .before .before .before .before .before .pre
+
 first-bad-trigger-requires : tie.Need-first-bad-trigger-requires
-first-bad-trigger-requires c κs = (c .before .before .before .before .before .before .before .before .before .before .before .before .before .before .before .before .before .before .before .before .before .pre, nodes-good (c .before .before .before .before))
+first-bad-trigger-requires c κs = (laid-5 c, nodes-good (c .before .before .before .before))
 
 section-at-requires-6 : tie.Need-section-at-requires-6
 section-at-requires-6 c κs =
@@ -148,10 +151,28 @@ triggers : (c : tie.After-section-at6) → c .section-at6 .result .count ≡ cou
 triggers c = ap (λ (x : Section). x .count) (c .section-at6 .ensures)
 
 returns-6 : tie.Need-returns-6
-returns-6 c = sym (past-programs (c .before .before .before .before) ∙ blame-stops 10 _ _ (c .before .before .before .first-bad-trigger .ensures) (triggers (c .before .before)) (c .if6 .taken))
+returns-6 c = sym (past-programs (c .before .before .before .before) ∙ stops _ (blame-stops 10 _ _ (c .before .before .before .first-bad-trigger .ensures) (triggers (c .before .before)) (c .if6 .taken)))
+
+abbrev file-6 : tie.Else6 → List ℕ
+file-6 c = file-5 (c .before .before .before .before)
+
+past-triggers : (c : tie.Else6) → book-verdict (decode (file-6 c)) ≡ labels-verdict (file-6 c)
+past-triggers c = past-programs (c .before .before .before .before) ∙ passes _ (blame-passes 10 _ _ (c .before .before .before .first-bad-trigger .ensures) (triggers (c .before .before)) (c .if6 .left))
+
+first-bad-label-requires : tie.Need-first-bad-label-requires
+first-bad-label-requires c κs = laid-5 (c .before .before .before .before)
+
+label-section-requires : tie.Need-label-section-requires
+label-section-requires c κs = laid-5 (c .before .before .before .before .before)
+
+labels : (c : tie.After-label-section) → c .label-section .result .count ≡ label-section (file-6 (c .before .before)) .count
+labels c = ap (λ (x : Section). x .count) (c .label-section .ensures)
 
 returns-7 : tie.Need-returns-7
-returns-7 c = sym (past-programs (c .before .before .before .before) ∙ blame-passes 10 _ _ (c .before .before .before .first-bad-trigger .ensures) (triggers (c .before .before)) (c .if6 .left))
+returns-7 c = sym (past-triggers (c .before .before .before .before) ∙ blame-stops 32 _ _ (c .before .before .before .first-bad-label .ensures) (labels (c .before .before)) (c .if7 .taken))
+
+returns-8 : tie.Need-returns-8
+returns-8 c = sym (past-triggers (c .before .before .before .before) ∙ blame-passes 32 _ _ (c .before .before .before .first-bad-label .ensures) (labels (c .before .before)) (c .if7 .left))
 
 pub inspect-records-spec : {M : Type 1} → statement M
 inspect-records-spec =
@@ -175,4 +196,7 @@ inspect-records-spec =
     first-bad-trigger-requires
     section-at-requires-6
     returns-6
-    returns-7)
+    first-bad-label-requires
+    label-section-requires
+    returns-7
+    returns-8)

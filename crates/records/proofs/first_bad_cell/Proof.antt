@@ -9,8 +9,9 @@ use Rattle.book.specs.Records.{CellRecord, place-of, cells-format}
 use Rattle.book.specs.Layout.{decode}
 use Rattle.book.specs.Refusals.{no-cell, cell-fits, bad-cell}
 use Rattle.book.proofs.Accepted.{laid, cells-inside}
-use Rattle.records.proofs.Cells.{least-at, least-first, least-next, unfit-cell, fallen-cell, good-cell}
+use Rattle.records.proofs.Cells.{least-cell, unfit-cell, fallen-cell, good-cell}
 use Rattle.book.proofs.Decoded.{cell-read}
+use Rattle.book.proofs.Least.{least-first, least-next}
 use Rattle.book.proofs.Scans.{Scan, scan-begins, scan-next, scan-found, scan-ends}
 use borrow.Author.Needs.{needs}
 use native.Mathlib.Omega.{arith}
@@ -18,7 +19,7 @@ use Rattle.records.proofs.first_bad_cell.Statement.{statement}
 use Rattle.records.proofs.first_bad_cell.Tie as tie
 
 abbrev Inv-loop : tie.InvT-loop
-Inv-loop file start n least₀ cell₀ least cell = Scan file 0 8 (bad-cell (decode file .cells)) start n cell × (least ≡ least-at (decode file .cells) cell)
+Inv-loop file start n least₀ cell₀ least cell = Scan file 0 8 (bad-cell (decode file .cells)) start n cell × (least ≡ least-cell (decode file .cells) cell)
 
 abbrev μ-loop : tie.MeasureT-loop
 μ-loop file start n least₀ cell₀ least cell = n - cell
@@ -29,7 +30,7 @@ section-at-requires c κs =
     (omega arith, t .long, t .back 0 (omega arith))
 
 loop-holds : tie.Need-loop-holds Inv-loop μ-loop
-loop-holds c = (scan-begins (c .section-at .ensures) (cells-inside (laid (c .before .before .pre))), least-first (decode (c .before .before .args .file .now) .cells))
+loop-holds c = (scan-begins (c .section-at .ensures) (cells-inside (laid (c .before .before .pre))), least-first place-of no-cell (decode (c .before .before .args .file .now) .cells))
 
 mul-at : tie.Need-mul-at Inv-loop μ-loop
 mul-at c = search needs
@@ -67,7 +68,7 @@ returns-2 : tie.Need-returns-2 Inv-loop μ-loop
 returns-2 c =
     let l = c .before .before .before .before in
     let fits : cell-fits (here l) ≡ true = sym (c .before .before .before .cell-fits .ensures) ∙ not-false _ (c .before .before .if1 .left) in
-    let falls : place-of (here l) < least-at (cells l) (l .before .loop .cell) = omega (arith, c .before .place-at .ensures .0, l .before .loop .inv .1) in
+    let falls : place-of (here l) < least-cell (cells l) (l .before .loop .cell) = omega (arith, c .before .place-at .ensures .0, l .before .loop .inv .1) in
     scan-found (l .before .loop .inv .0) (l .loop-test .taken) (fallen-cell (cells l) _ (read l) fits falls)
 
 add-least : tie.Need-add-least Inv-loop μ-loop
@@ -83,8 +84,8 @@ loop-again : tie.Need-loop-again Inv-loop μ-loop
 loop-again c =
     let l = c .before .before .before .before in
     let fits : cell-fits (here l) ≡ true = sym (c .before .before .before .cell-fits .ensures) ∙ not-false _ (c .before .before .if1 .left) in
-    let rises : least-at (cells l) (l .before .loop .cell) ≤ place-of (here l) = omega (arith, c .before .place-at .ensures .0, l .before .loop .inv .1) in
-    let next : c .before .place-at .result + 1 ≡ least-at (cells l) (l .before .loop .cell + 1) = ap (λ (n : ℕ). n + 1) (c .before .place-at .ensures .0) ∙ least-next (cells l) _ (read l) in
+    let rises : least-cell (cells l) (l .before .loop .cell) ≤ place-of (here l) = omega (arith, c .before .place-at .ensures .0, l .before .loop .inv .1) in
+    let next : c .before .place-at .result + 1 ≡ least-cell (cells l) (l .before .loop .cell + 1) = ap (λ (n : ℕ). n + 1) (c .before .place-at .ensures .0) ∙ least-next place-of no-cell (cells l) _ (read l) in
     (scan-next (l .before .loop .inv .0) (l .loop-test .taken) (good-cell (cells l) _ (read l) fits rises), next)
 
 returns-3 : tie.Need-returns-3 Inv-loop μ-loop

@@ -6,7 +6,7 @@ use native.Mathlib.Omega.{arith}
 use lib.ListN.{length}
 use borrow.Author.Needs.{needs}
 use Rattle.book.specs.Bytes.{le16, two}
-use Rattle.book.specs.Layout.{trailer, count}
+use Rattle.book.specs.Layout.{pair-start, count}
 use Rattle.book.proofs.Accepted.{placed}
 use Rattle.machine.specs.Script.{counts-start}
 use Rattle.start.proofs.Copies.{Numbers, numbers-none, numbers-turn, le16-same, le16-stored, stored-stays}
@@ -59,7 +59,7 @@ loop-again c =
     let here : counts-start + 2 * i ≤ length code = omega (arith, l .loop .inv .1 .long, s .pre .1) in
     let e = rw (c .before .before .before .before .section-at .ensures) at (c .before .before .put-u16 .ensures) in
     let byte = l .before .before .shared-slice-known .given in
-    let at : ℕ = trailer (s .args .file .now) + 10 + 4 * (i + 1) in (
+    let at : ℕ = pair-start (s .args .file .now) (i + 1) + 2 in (
       omega arith,
       numbers-turn le16-same (l .loop .inv .1) (c .before .before .put-u16 .kept .0) (stored-stays code (two n) _ (counts-start + 2 * i) here e)
           (le16-stored code _ _ (counts-start + 2 * i) n here e (omega (arith, byte at, byte (at + 1)))),

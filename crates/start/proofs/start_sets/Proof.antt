@@ -27,8 +27,8 @@ idle-row : (sets : List (List ℕ)) → row-at sets posting-row ≡ empty 8 → 
 unfolding idle
 idle-row sets e = rw e
 
-own-labels-requires : tie.Need-own-labels-requires
-own-labels-requires c κs = search needs
+start-labels-requires : tie.Need-start-labels-requires
+start-labels-requires c κs = search needs
 
 element-set-from-present : tie.Need-element-set-from-present
 element-set-from-present c = search needs
@@ -57,11 +57,11 @@ returns c =
     let read = write .before .before .before in
     let public = read .before .before .before in
     let own = public .before in
-    let s = own .before .before in
+    let s = own .before .before .before in
     let b : Book = script-of (s .args .code .now) in
-    let s₁ : List (List ℕ) = own .own-labels .last .0 in
+    let s₁ : List (List ℕ) = own .start-labels .last .1 .0 in
     let s₂ : List (List ℕ) = set s₁ present-row (s .args .present) in
-    let long = own .own-labels .ensures .0 in
+    let long = own .start-labels .ensures .0 in
     let r = rw (read .before .right-sets .ensures) at (read .store-users .ensures) in
     let w = rw (write .before .right-sets2 .ensures) at (write .store-users2 .ensures) in
     record {
@@ -80,19 +80,19 @@ returns c =
           ∙ r .after (label-row + place) (omega arith)
           ∙ row-other s₂ public-row _ (label-row + place) (λ e. omega (arith, e))
           ∙ row-other s₁ present-row _ (label-row + place) (λ e. omega (arith, e))
-          ∙ own .own-labels .ensures .1 place h;
+          ∙ own .start-labels .ensures .1 place h;
       idles = idle-row _ (w .after posting-row (omega arith)
           ∙ r .after posting-row (omega arith)
           ∙ row-other s₂ public-row _ posting-row (λ e. omega (arith, e))
           ∙ row-other s₁ present-row _ posting-row (λ e. omega (arith, e))
-          ∙ own .own-labels .ensures .2);
+          ∙ own .start-labels .ensures .2);
     }
 
 pub start-sets-spec : {M : Type 1} → statement M
 start-sets-spec =
     tie.close
     (tie.spec
-    own-labels-requires
+    start-labels-requires
     element-set-from-present
     public-set-requires
     element-set-from-sets

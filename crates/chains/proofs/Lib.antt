@@ -1,0 +1,10 @@
+pub mod Written
+pub mod Told
+pub mod Demand3
+pub mod EitherFirst
+pub mod OneDay
+pub mod CrossingOver
+pub mod NextDay
+pub mod Lent
+pub mod Witnesses
+pub mod Claims
