@@ -1,4 +1,6 @@
 // Commands that write variables: assignment and raise.
+#![tactic(auto)]
+
 ghost use Rattle.std.specs.Prelude.{◌≡◌, List, ℕ, ◌≤◌, ℤ, length};
 ghost use Rattle.book.specs.Kinds.{command};
 ghost use Rattle.book.specs.Refusals.{node_at};

@@ -1,18 +1,20 @@
 // A book file: its sections, places and regions; what the checks of the crates above answer.
+#![tactic(auto)]
+
 ghost use Rattle.std.specs.Prelude.{◌≡◌, ◌+◌, ◌≤◌, ◌<◌, length};
 ghost use Rattle.book.specs.Records.{place_of, region_of, cells_format, regions_format};
 ghost use Rattle.book.specs.Layout.{distance, section, label_section};
 ghost use Rattle.book.specs.Refusals.{Laid};
 
 // A section of the file: the first byte, and the number of records.
-#[derive(Drop)]
+#[derive(Clone, Copy)]
 pub struct Section {
     pub start: usize,
     pub count: usize,
 }
 
 // A kind of node: what entering it costs, its sort, and the roles of its fields.
-#[derive(Drop)]
+#[derive(Clone, Copy)]
 pub struct Row {
     pub cost: u8,
     pub sort: u8,
@@ -25,7 +27,7 @@ pub struct Row {
 }
 
 // What the checks of a file find: nothing wrong, or the paper's refusal number and the first bad record's index.
-#[derive(Drop)]
+#[derive(Clone, Copy)]
 pub enum Verdict {
     Accepted,
     Refused(u32, usize),

@@ -1,4 +1,6 @@
 // The runner, the tool that names the cell, the loader and the writer for C and Rust. include/kagyurma.h declares them.
+#![tactic(auto)]
+
 ghost use Rattle.std.specs.Prelude.{◌≡◌, ℕ, ◌≤◌, ◌<◌};
 ghost use Rattle.std.proofs.Math.Option.{some};
 ghost use Rattle.counting.specs.Named.{named};
@@ -9,7 +11,7 @@ use counting::LowestMember;
 // How a run ended: the paper's number, 0 if it finished; the node of a stop or the index of a refusal; the cost spent and the
 // trace bytes written.
 #[repr(C)]
-#[derive(Drop)]
+#[derive(Clone, Copy)]
 pub struct Ran {
     pub number: u32,
     pub at: u32,
@@ -20,7 +22,7 @@ pub struct Ran {
 // How an explained run ended: as a run, and of a stop about labels the lowest place in its way and how many there are. The header calls 512
 // `KAGYURMA_NO_PLACE`.
 #[repr(C)]
-#[derive(Drop)]
+#[derive(Clone, Copy)]
 pub struct RanExplained {
     pub number: u32,
     pub at: u32,
@@ -33,7 +35,7 @@ pub struct RanExplained {
 // How loading or writing ended: the refusal's number, 0 if there was none, and its index; the bytes written, 0 for a load.
 // The header calls these `length`.
 #[repr(C)]
-#[derive(Drop)]
+#[derive(Clone, Copy)]
 pub struct Answered {
     pub number: u32,
     pub at: u32,
@@ -62,8 +64,8 @@ pub extern "C" fn kagyurma_run(
     labels: &mut [u64],
     trace: &mut [u8],
 ) -> Ran
-    ensures { record { answer = result; memory = record { amounts = amounts.exit.now; presence = presence.new; labels = labels.new; trace = trace.new } }
-        ≡ run_call file.now budget (record { amounts = amounts.entry.now; presence = presence.old; labels = labels.old; trace = trace.old }) }
+    ensures { record { answer = result; memory = record { amounts = amounts.new; presence = presence.new; labels = labels.new; trace = trace.new } }
+        ≡ run_call file.now budget (record { amounts = amounts.old; presence = presence.old; labels = labels.old; trace = trace.old }) }
 {
     let answer = runner::run(file, budget, amounts, presence, labels, trace);
     let values = entry::values_of(answer);
@@ -96,8 +98,8 @@ pub extern "C" fn kagyurma_explain(
     labels: &mut [u64],
     trace: &mut [u8],
 ) -> RanExplained
-    ensures { record { answer = result; memory = record { amounts = amounts.exit.now; presence = presence.new; labels = labels.new; trace = trace.new } }
-        ≡ explain_call file.now budget (record { amounts = amounts.entry.now; presence = presence.old; labels = labels.old; trace = trace.old }) }
+    ensures { record { answer = result; memory = record { amounts = amounts.new; presence = presence.new; labels = labels.new; trace = trace.new } }
+        ≡ explain_call file.now budget (record { amounts = amounts.old; presence = presence.old; labels = labels.old; trace = trace.old }) }
 {
     let explained = explainer::explain(file, budget, amounts, presence, labels, trace);
     let answer = explained.answer;

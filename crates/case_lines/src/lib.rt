@@ -1,5 +1,7 @@
 // What the programs that read cases and print a line for each have in common: reading, numbers drawn from a seed, digests, and
 // printing.
+#![tactic(auto)]
+
 ghost use Rattle.std.specs.Prelude.{◌+◌, ◌*◌, ◌≤◌, ◌<◌, length};
 
 // Reads from standard input until all bytes are filled; answers whether there were enough.

@@ -4,6 +4,8 @@
 // A case is a header of 24 bytes and a file. The header, lowest byte first: the file's length, the budget and the length of the
 // lent bytes (4 bytes each), the lengths of the lent amounts, presence and labels (2 each), the task (2), and a seed (4). The
 // task is 0 to run the file, and otherwise to load it and write it: with 2 and 3 the labels to write are drawn too.
+#![tactic(auto)]
+
 ghost use Rattle.std.specs.Prelude.{true, ◌≡◌, length};
 ghost use Rattle.cases.specs.Header.{Lendable};
 

@@ -2,6 +2,8 @@
 // looked at. The pairs and the lines to expect are made by the reference.
 //
 // A pair is 128 bytes: the eight words of the first set and the eight of the second, lowest byte first.
+#![tactic(auto)]
+
 ghost use Rattle.std.specs.Prelude.{◌+◌, ◌≤◌, length};
 
 // The word in the eight bytes at `at`.

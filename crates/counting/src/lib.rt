@@ -1,10 +1,12 @@
 // How many members a set of places has, and which is the lowest.
+#![tactic(auto)]
+
 ghost use Rattle.std.specs.Prelude.{◌≡◌, ℕ, ◌<◌};
 ghost use Rattle.places.specs.Sets.{size, lowest};
 ghost use Rattle.counting.specs.Named.{named};
 
 // The lowest member of a set, if it has one.
-#[derive(Drop)]
+#[derive(Clone, Copy)]
 pub enum LowestMember {
     Place(usize),
     None,

@@ -1,5 +1,7 @@
 // The parts of a written book, each stored into lent output: cell records, label records, what stands behind them, and numbers and copied
 // bytes, which fill a script too.
+#![tactic(auto)]
+
 ghost use Rattle.std.specs.Prelude.{◌≡◌, ◌++◌, ◌+◌, ◌≤◌, ◌<◌, length, take, drop};
 ghost use Rattle.book.specs.Bytes.{two, four, eight};
 ghost use Rattle.book.specs.Records.{section_bytes, cells_format, labels_format};

@@ -1,4 +1,6 @@
 // The answers of the entries, from the end of a run, and the paper's numbers for them.
+#![tactic(auto)]
+
 ghost use Rattle.std.specs.Prelude.{◌≡◌, ◌≤◌};
 ghost use Rattle.monitor.specs.Call.{values};
 ghost use Rattle.monitor.specs.Run.{about_labels};
@@ -13,7 +15,7 @@ use monitor::{Answer, Values};
 
 // The answer of the tool that names the cell: that of the run, and of a stop about labels the lowest place in its way and the number of such
 // places.
-#[derive(Drop)]
+#[derive(Clone, Copy)]
 pub struct Explained {
     pub answer: Answer,
     pub place: LowestMember,

@@ -1,4 +1,6 @@
 // The tool that names the cell: it runs a book again, and says which places were in the way of its stop.
+#![tactic(auto)]
+
 ghost use Rattle.entry.specs.Entry.{lent};
 ghost use Rattle.entry.specs.Explain.{Explains};
 

@@ -1,4 +1,6 @@
 // Expressions: evaluated by recursion over node number. Labels are joined to one that is lent, so that none is copied on the way up.
+#![tactic(auto)]
+
 ghost use Rattle.std.specs.Prelude.{◌≡◌, true, ℕ, ◌<◌};
 ghost use Rattle.book.specs.Kinds.{expression, between};
 ghost use Rattle.book.specs.Refusals.{node_at};

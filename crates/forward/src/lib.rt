@@ -1,6 +1,8 @@
 // Carrying a book forward: it is run, and where the run finishes it is written as the run leaves it, for the next day.
+#![tactic(auto)]
+
 ghost use Rattle.std.specs.Prelude.{◌≡◌};
-ghost use Rattle.entry.specs.Entry.{lent, result};
+ghost use Rattle.entry.specs.Entry.{lent, result as run_result};
 ghost use Rattle.claims.specs.TwoBooks.{finished};
 ghost use Rattle.writer.specs.Write.{written_values, write_call};
 ghost use Rattle.forward.specs.Forward.{forward_call};
@@ -8,7 +10,7 @@ ghost use Rattle.forward.specs.Forward.{forward_call};
 use monitor::Answer;
 
 // How it ended: the answer of the run, and the bytes of the new book, 0 where none is written.
-#[derive(Drop)]
+#[derive(Clone, Copy)]
 pub struct Carried {
     pub answer: Answer,
     pub bytes: usize,
@@ -16,7 +18,7 @@ pub struct Carried {
 
 // Whether a run finished.
 fn finishes(answer: Answer) -> bool
-    ensures* { λ r. ⌜ r ≡ finished answer ⌝ }
+    ensures { result ≡ finished answer }
 {
     match answer {
         Answer::Refused(_, _) => false,
@@ -27,8 +29,8 @@ fn finishes(answer: Answer) -> bool
 
 // Writes the book with these cells and labels; answers its bytes, 0 where it is refused.
 fn write(file: &[u8], amounts: &[i32], presence: &[u64], labels: &[u64], out: &mut [u8]) -> usize
-    ensures* { λ r. ⌜ (r ≡ (written_values (write_call file.now amounts.now presence.now labels.now out.old).answer).bytes)
-        × (out.new ≡ (write_call file.now amounts.now presence.now labels.now out.old).out) ⌝ }
+    ensures { (result ≡ (written_values (write_call file.now amounts.now presence.now labels.now out.old).answer).bytes)
+        × (out.new ≡ (write_call file.now amounts.now presence.now labels.now out.old).out) }
 {
     match writer::write(file, amounts, presence, labels, out) {
         writer::Written::Refused(_, _) => 0,
@@ -46,8 +48,8 @@ pub fn carry_forward(
     trace: &mut [u8],
     out: &mut [u8],
 ) -> Carried
-    ensures* { λ r. ⌜ record { ran = result r.answer (lent amounts.new presence.new labels.new trace.new); bytes = r.bytes; out = out.new }
-        ≡ forward_call file.now budget (lent amounts.old presence.old labels.old trace.old) out.old ⌝ }
+    ensures { record { ran = run_result result.answer (lent amounts.new presence.new labels.new trace.new); bytes = result.bytes; out = out.new }
+        ≡ forward_call file.now budget (lent amounts.old presence.old labels.old trace.old) out.old }
 {
     let answer = runner::run(file, budget, amounts, presence, labels, trace);
     if !finishes(answer) {

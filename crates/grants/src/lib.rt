@@ -1,4 +1,6 @@
 // Commands that change the rights: grant and revoke.
+#![tactic(auto)]
+
 ghost use Rattle.std.specs.Prelude.{◌≡◌, true, List, ◌∷◌, ◌++◌, ℕ, ◌+◌, ◌≤◌, ◌<◌, ℤ, eqb, length, drop};
 ghost use Rattle.places.specs.Sets.{union, difference};
 ghost use Rattle.book.specs.Bytes.{byte, le16, four};

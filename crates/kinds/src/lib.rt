@@ -1,4 +1,6 @@
 // The table of node kinds: what a node costs, its sort, and the roles of its fields.
+#![tactic(auto)]
+
 ghost use Rattle.std.specs.Prelude.{◌≡◌, ◌<◌};
 ghost use Rattle.book.specs.Layout.{count, section, decode};
 ghost use Rattle.book.specs.Start.{tabulate};

@@ -1,4 +1,6 @@
 // The label records of version 2: the place and the label of each, and their check (refusal 32).
+#![tactic(auto)]
+
 ghost use Rattle.std.specs.Prelude.{◌≡◌, ◌+◌, ◌≤◌, ◌<◌, length};
 ghost use Rattle.labels.specs.Labels.{is_own};
 ghost use Rattle.book.specs.Records.{label_of, labels_format};

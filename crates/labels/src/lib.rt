@@ -1,4 +1,6 @@
 // The labels of the 512 cells in lent memory: the label of cell p is the eight words from 8 * p on.
+#![tactic(auto)]
+
 ghost use Rattle.std.specs.Prelude.{◌≡◌, ◌+◌, ◌*◌, ◌≤◌, ◌<◌, length, get_or};
 ghost use Rattle.places.specs.Sets.{single};
 ghost use Rattle.labels.specs.Labels.{label_at, set_label, own_labels, is_own, no_labels};

@@ -1,5 +1,7 @@
 // The run list: a book from standard input is run, and a line printed for each trace record and one for how the run ended. The explained list
 // has one line more, for the cell in the way of its stop; the list of a book that is carried forward ends with the book for the next day.
+#![tactic(auto)]
+
 ghost use Rattle.std.specs.Prelude.{◌+◌, ◌≤◌, length};
 
 use counting::LowestMember;

@@ -1,4 +1,6 @@
 // What the functions that run a book are lent and answer: the script, the sets, the numbers of the run. The promises they make are in specs/.
+#![tactic(auto)]
+
 ghost use Rattle.std.specs.Prelude.{◌≡◌, ◌+◌, ◌≤◌, ◌<◌, length, get_or};
 ghost use Rattle.places.specs.Sets.{has, union};
 ghost use Rattle.book.specs.Records.{region_of};
@@ -11,21 +13,21 @@ ghost use Rattle.machine.specs.Store.{label_row, users_rows, Replaces};
 ghost use Rattle.machine.specs.Promises.{Stops, Compares, Pays};
 
 // The value of an expression, or none where the run stopped on the way to it.
-#[derive(Drop)]
+#[derive(Clone, Copy)]
 pub enum Value {
     Known(i32),
     Stopped,
 }
 
 // The end of a command.
-#[derive(Drop)]
+#[derive(Clone, Copy)]
 pub enum Outcome {
     Done,
     Stopped,
 }
 
 // The write of a cell: at its place, or none where the run stopped before it.
-#[derive(Drop)]
+#[derive(Clone, Copy)]
 pub enum Posted {
     At(usize),
     Stopped,
@@ -140,7 +142,7 @@ pub fn stop_outside(
 ) -> Outcome
     requires { n < 1024 }
     ensures { (result ≡ Outcome.Stopped) × Stops run.old number n run.new
-        × Compares sets.old (record { tested = tested.entry.now; bound = bound.now }) sets.new }
+        × Compares sets.old (record { tested = tested.now; bound = bound.now }) sets.new }
 {
     let all: &[[u64; 8]] = sets;
     let first = *tested;

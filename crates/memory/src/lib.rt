@@ -1,4 +1,6 @@
 // Copies between lent memory and arrays, whose lengths the running functions need not ask for.
+#![tactic(auto)]
+
 ghost use Rattle.std.specs.Prelude.{◌≡◌, length};
 
 pub fn copy_amounts(from: &[i32], to: &mut [i32])

@@ -1,4 +1,6 @@
 // The check of nodes (refusal 8): each field is as its kind says.
+#![tactic(auto)]
+
 ghost use Rattle.std.specs.Prelude.{◌≡◌, ◌&&◌, ◌||◌, ◌+◌, ◌≤◌, eqb, ltb, length, get_or};
 ghost use Rattle.book.specs.Bytes.{le16, le32, signed32};
 ghost use Rattle.book.specs.Records.{Book};

@@ -1,4 +1,6 @@
 // Numbers in the bytes of a file, lowest byte first; signed numbers and their 32 bits.
+#![tactic(auto)]
+
 ghost use Rattle.std.specs.Prelude.{◌≡◌, ◌+◌, ◌≤◌, ◌<◌, length};
 ghost use Rattle.numbers.specs.Bytes.{byte, le16, le24, le32, le64, signed32, bits32};
 

@@ -1,9 +1,11 @@
 // Sets of places in eight words: place p is bit p % 64 of word p / 64.
+#![tactic(auto)]
+
 ghost use Rattle.std.specs.Prelude.{◌≡◌, ◌<◌, length};
 ghost use Rattle.places.specs.Sets.{has, single, union, difference, within, looked_at};
 
 // What a comparison of two sets tells: whether the first lies within the second, and how many words were looked at.
-#[derive(Drop)]
+#[derive(Clone, Copy)]
 pub struct Comparison {
     pub inside: bool,
     pub words: usize,

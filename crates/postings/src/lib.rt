@@ -1,4 +1,6 @@
 // The write of one cell, with its tests.
+#![tactic(auto)]
+
 ghost use Rattle.std.specs.Prelude.{◌≡◌, cond, true, ◌<◌, eqb};
 ghost use Rattle.std.specs.Int.Bits.{bit_or, bit_and, bit_xor};
 ghost use Rattle.places.specs.Sets.{union};

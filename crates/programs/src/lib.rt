@@ -1,4 +1,6 @@
 // The programs of a book, one after another.
+#![tactic(auto)]
+
 ghost use Rattle.std.specs.Prelude.{◌≡◌, true, ℕ, ◌<◌, ℤ, length};
 ghost use Rattle.monitor.specs.Labelled.{Lab};
 ghost use Rattle.machine.specs.Script.{script_of};

@@ -1,4 +1,6 @@
 // Queries: count, sum, smallest and largest over the cells of a table in a box of owners and lines.
+#![tactic(auto)]
+
 ghost use Rattle.std.specs.Prelude.{◌≡◌, ◌^◌, ◌<◌};
 ghost use Rattle.std.specs.Int.Signed.{mag};
 ghost use Rattle.machine.specs.Store.{cells_held};
@@ -9,7 +11,7 @@ use machine::Sets;
 use monitor::Amount;
 
 // What a query finds, and the labels of all cells in its box.
-#[derive(Drop)]
+#[derive(Clone, Copy)]
 pub struct Found {
     pub amount: Amount,
     pub label: [u64; 8],

@@ -1,4 +1,6 @@
 // What a node reaches: for each node, whether its children's children lead to a kind that no trigger body may reach.
+#![tactic(auto)]
+
 ghost use Rattle.std.specs.Prelude.{◌≡◌, false, ◌||◌, ◌<◌, ℕ, get_or};
 ghost use Rattle.book.specs.Layout.{count, section, decode};
 ghost use Rattle.book.specs.Refusals.{first, Laid, bad_node, forbidden, reaches};

@@ -1,4 +1,6 @@
 // The reader: whether a file is a book, or why it is refused.
+#![tactic(auto)]
+
 ghost use Rattle.std.specs.Prelude.{◌≡◌};
 ghost use Rattle.book.specs.Layout.{decode};
 ghost use Rattle.book.specs.Refusals.{Laid, book_verdict, verdict};

@@ -1,4 +1,6 @@
 // The checks of cell, region and right records (refusals 5 to 7).
+#![tactic(auto)]
+
 ghost use Rattle.std.specs.Prelude.{◌≡◌, ◌&&◌, cond, ◌+◌, ◌≤◌, eqb, leb, length};
 ghost use Rattle.book.specs.Records.{cells_format, regions_format, rights_format};
 ghost use Rattle.book.specs.Layout.{count, decode};

@@ -1,16 +1,18 @@
 // Regions, and their sets of places: a word for each table, with a row of eight bits, one for each line, for each owner.
+#![tactic(auto)]
+
 ghost use Rattle.std.specs.Prelude.{◌≡◌, ◌^◌, ◌<◌, ◌≤◌};
 ghost use Rattle.regions.specs.Regions.{in_range, in_region, region_set, repeated};
 
 // The numbers from `first` to `last`, both included; none where first is above last.
-#[derive(Drop)]
+#[derive(Clone, Copy)]
 pub struct Range {
     pub first: usize,
     pub last: usize,
 }
 
 // A region: a table with a range of owners and a range of lines.
-#[derive(Drop)]
+#[derive(Clone, Copy)]
 pub struct Region {
     pub table: usize,
     pub owners: Range,

@@ -1,4 +1,6 @@
 // The rights at the start of a run: the public set, and the read and write sets of the users, from the rights records of the script.
+#![tactic(auto)]
+
 ghost use Rattle.std.specs.Prelude.{◌≡◌};
 ghost use Rattle.book.specs.Start.{tabulate, right_set, public_set};
 ghost use Rattle.machine.specs.Script.{script_of, Runnable};

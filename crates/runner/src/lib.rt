@@ -1,4 +1,6 @@
 // The runner: the entry that takes a file, a budget and lent memory, and what it is made of.
+#![tactic(auto)]
+
 ghost use Rattle.std.specs.Prelude.{◌≡◌, true, ◌≤◌, length};
 ghost use Rattle.book.specs.Start.{Lengths};
 ghost use Rattle.book.specs.Refusals.{verdict};
@@ -6,7 +8,7 @@ ghost use Rattle.book.specs.declared.Verdict.TheVariants.{Accepted};
 ghost use Rattle.loader.specs.Load.{lent_fits};
 ghost use Rattle.monitor.specs.Call.{amounts_in, presence_in, labels_in, answered};
 ghost use Rattle.machine.specs.Store.{cells_held};
-ghost use Rattle.entry.specs.Entry.{lent, result, Runs};
+ghost use Rattle.entry.specs.Entry.{lent, result as run_result, Runs};
 ghost use Rattle.entry.specs.Explain.{obstacle_after, obstacle_called};
 
 use machine::Sets;
@@ -15,7 +17,7 @@ use monitor::Answer;
 // Stores the words of a row in lent memory.
 fn store_words(row: [u64; 8], words: &mut [u64])
     requires { length words.old ≡ 8 }
-    ensures* { λ _. ⌜ words.new ≡ row ⌝ }
+    ensures { words.new ≡ row }
 {
     memory::copy_words(&row, words);
 }
@@ -29,9 +31,9 @@ fn store_cells(
     labels: &mut [u64],
 )
     requires { Lengths amounts.old presence.old labels.old }
-    ensures* { λ _. ⌜ (amounts.new ≡ amounts_in (cells_held cells.now sets.now))
+    ensures { (amounts.new ≡ amounts_in (cells_held cells.now sets.now))
         × (presence.new ≡ presence_in (cells_held cells.now sets.now))
-        × (labels.new ≡ labels_in (cells_held cells.now sets.now) 512) ⌝ }
+        × (labels.new ≡ labels_in (cells_held cells.now sets.now) 512) }
 {
     memory::copy_amounts(cells, amounts);
     store_words(sets[machine::PRESENT], presence);
@@ -54,10 +56,10 @@ fn started(
     obstacle: &mut [u64; 8],
 ) -> Answer
     requires { (verdict file.now ≡ Accepted) × Lengths amounts.old presence.old labels.old × (length trace.old ≤ 65536) }
-    ensures* trace_after { λ r. ⌜ result r (lent amounts.new presence.new labels.new trace.new)
-        ≡ answered true file.now budget (lent amounts.old presence.old labels.old trace.old) Accepted ⌝ }
-    ensures* obstacle_after { λ _. ⌜ obstacle.new ≡ obstacle_after file.now budget
-        (lent amounts.old presence.old labels.old trace.old) obstacle.old Accepted ⌝ }
+    ensures ran { run_result result (lent amounts.new presence.new labels.new trace.new)
+        ≡ answered true file.now budget (lent amounts.old presence.old labels.old trace.old) Accepted }
+    ensures in_the_way { obstacle.new ≡ obstacle_after file.now budget
+        (lent amounts.old presence.old labels.old trace.old) obstacle.old Accepted }
 {
     let mut cells = [0i32; 512];
     let present = loader::load_cells(file, &mut cells);
@@ -77,7 +79,7 @@ fn started(
 
 // Whether lent memory has 512 amounts, 8 presence words and 4,096 label words.
 fn lengths_fit(amounts: &[i32], presence: &[u64], labels: &[u64]) -> bool
-    ensures* { λ r. ⌜ r ≡ lent_fits amounts.now presence.now labels.now ⌝ }
+    ensures { result ≡ lent_fits amounts.now presence.now labels.now }
 {
     if amounts.len() != 512 {
         return false;
@@ -99,10 +101,10 @@ pub fn run_to_obstacle(
     trace: &mut [u8],
     obstacle: &mut [u64; 8],
 ) -> Answer
-    ensures* fact { λ r. ⌜ Runs file.now budget (lent amounts.old presence.old labels.old trace.old)
-        r (lent amounts.new presence.new labels.new trace.new) ⌝ }
-    ensures* obstacle_after { λ _. ⌜ obstacle.new ≡ obstacle_called file.now budget
-        (lent amounts.old presence.old labels.old trace.old) obstacle.old ⌝ }
+    ensures ran { Runs file.now budget (lent amounts.old presence.old labels.old trace.old)
+        result (lent amounts.new presence.new labels.new trace.new) }
+    ensures in_the_way { obstacle.new ≡ obstacle_called file.now budget
+        (lent amounts.old presence.old labels.old trace.old) obstacle.old }
 {
     if 1000000 < budget {
         return Answer::Refused(1, 0);
@@ -130,8 +132,8 @@ pub fn run(
     labels: &mut [u64],
     trace: &mut [u8],
 ) -> Answer
-    ensures* { λ r. ⌜ Runs file.now budget (lent amounts.old presence.old labels.old trace.old)
-        r (lent amounts.new presence.new labels.new trace.new) ⌝ }
+    ensures { Runs file.now budget (lent amounts.old presence.old labels.old trace.old)
+        result (lent amounts.new presence.new labels.new trace.new) }
 {
     let mut unread = [0u64; 8];
     run_to_obstacle(file, budget, amounts, presence, labels, trace, &mut unread)

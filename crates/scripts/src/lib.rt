@@ -1,4 +1,6 @@
 // The checks of programs and triggers (refusals 9 and 10).
+#![tactic(auto)]
+
 ghost use Rattle.std.specs.Prelude.{◌≡◌, false, ◌+◌, ◌≤◌, ◌<◌, ℕ, length, get_or};
 ghost use Rattle.book.specs.Records.{programs_format, triggers_format};
 ghost use Rattle.book.specs.Layout.{count, section, decode};

@@ -1,4 +1,6 @@
 // The memory of a run at its start: the script and the sets of an accepted book.
+#![tactic(auto)]
+
 ghost use Rattle.std.specs.Prelude.{◌≡◌, ℕ, ◌+◌, ◌*◌, ◌<◌, ◌≤◌, length, replicate};
 ghost use Rattle.places.specs.Sets.{empty, single};
 ghost use Rattle.book.specs.Layout.{count, section, decode};

@@ -1,4 +1,6 @@
 // Records of the trace.
+#![tactic(auto)]
+
 ghost use Rattle.std.specs.Prelude.{◌≡◌, ◌∷◌, ◌++◌, ◌≤◌, length, drop};
 ghost use Rattle.book.specs.Bytes.{four};
 

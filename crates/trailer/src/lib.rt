@@ -1,4 +1,6 @@
 // The checks of a file's shape: length, mark, sections (refusals 2 to 4).
+#![tactic(auto)]
+
 ghost use Rattle.std.specs.Prelude.{◌≡◌, cond, ◌+◌, ◌-◌, ◌*◌, ◌≤◌, ◌<◌, eqb, length};
 ghost use Rattle.book.specs.Layout.{remembers};
 ghost use Rattle.book.specs.Refusals.{length_fits, marked, mark_fits, sections_fit};

@@ -1,4 +1,6 @@
 // Triggers: whether one fits a write, and the variables with which it runs.
+#![tactic(auto)]
+
 ghost use Rattle.std.specs.Prelude.{◌≡◌, ◌-◌, ◌<◌, pos, length, get_or};
 ghost use Rattle.monitor.specs.Run.{update};
 ghost use Rattle.monitor.specs.Rules.{fitting, trigger_at};
@@ -9,7 +11,7 @@ ghost use Rattle.triggers.specs.Search.{first_fitting};
 use machine::Script;
 
 // The first trigger that fits a write: its number, its user and its body.
-#[derive(Drop)]
+#[derive(Clone, Copy)]
 pub enum Fitting {
     None,
     Trigger(usize, usize, usize),

@@ -1,4 +1,6 @@
 // What a program's own posting keeps of the cells that it touches, so that a stop inside a trigger's body can take it back.
+#![tactic(auto)]
+
 ghost use Rattle.std.specs.Prelude.{◌≡◌, true, false, ◌<◌};
 ghost use Rattle.machine.specs.Store.{idle, kept_amount};
 ghost use Rattle.undo.specs.Undo.{Begins, Keeps, TakesBack, Ends};

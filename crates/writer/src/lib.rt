@@ -1,11 +1,13 @@
 // Writing: makes a new file of a book with the cells and labels of lent memory for its own.
+#![tactic(auto)]
+
 ghost use Rattle.std.specs.Prelude.{◌≡◌, ◌++◌, ◌≤◌, length, drop};
 ghost use Rattle.book.specs.Refusals.{verdict};
 ghost use Rattle.book.specs.declared.Verdict.TheVariants.{Accepted};
 ghost use Rattle.writer.specs.Write.{rewritten, write_call};
 
 // What writing a book answers: the refusal's number and index, or the length written.
-#[derive(Drop)]
+#[derive(Clone, Copy)]
 pub enum Written {
     Refused(u32, usize),
     Wrote(usize),
