@@ -100,6 +100,12 @@ module _ (back : ReadsBack) (g : Group) (R : Label) where
       → Within (days_reach g d) R → Told R (side g d) (side g d')
   unfolding last_answer no_stop last_memory days_trace days_reach
   over_days (last_day d) (last_day d') no_day b h = two_days g R d d' b h
+  over_days (last_day d) (breaks_off d' e') x b h = elim x [ ]
+  over_days (last_day d) (not_written d' f' w' number' index' e') x b h = elim x [ ]
+  over_days (last_day d) (goes_on d' f' w' n' e' rest') x b h = elim x [ ]
+  over_days (breaks_off d e) (last_day d') x b h = elim x [ ]
+  over_days (not_written d f w number index e) (last_day d') x b h = elim x [ ]
+  over_days (goes_on d f w n e rest) (last_day d') x b h = elim x [ ]
   over_days (breaks_off d e) (breaks_off d' e') (day_more s more) b h = both_end (two_days g R d d' b h) e e'
   over_days (breaks_off d e) (not_written d' f' w' number' index' e') (day_more s more) b h =
       both_end (two_days g R d d' b h) e (refused_ends w'.answer)

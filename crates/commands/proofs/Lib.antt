@@ -1,4 +1,5 @@
 pub mod Chains
+pub mod Entries
 pub mod Firing
 pub mod Numbers
 pub mod Steps

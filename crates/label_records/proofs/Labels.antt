@@ -10,7 +10,7 @@ use borrow.Author.Tests.{le-leb, lt-leb, lt-ltb, le-ltb}
 use Rattle.labels.specs.Labels.{is_own}
 use Rattle.book.specs.Bytes.{le64}
 use Rattle.book.specs.Records.{LabelRecord, word64, label_of, labels_format}
-use Rattle.book.specs.Refusals.{no_label, labelled, label_fits, rises, bad_label}
+use Rattle.book.specs.Refusals.{no_label, labelled, label_fits, bad_label}
 use Rattle.book.specs.Start.{tabulate}
 use Rattle.book.proofs.Least.{least_at, rises_least}
 use Rattle.book.proofs.Tabulate.{tabulate_at}

@@ -1,10 +1,10 @@
 -- Loading the labels: one record more, from the last to the first. Assumes nothing.
-use mathlib.Core.Path.{◌≡◌, sym, ap, ap₂, ◌∙◌}
+use mathlib.Core.Path.{◌≡◌, sym, ap, ◌∙◌}
 use mathlib.Core.List.{List}
 use Prim.Native.Nat.{ℕ, ◌-◌, ◌+◌, ◌*◌, ◌≤◌, ◌<◌}
 use lib.ListN.{length}
 use Rattle.labels.specs.Labels.{set_label, labels_by, own_labels}
-use Rattle.labels.proofs.Labels.{length_by, by_cong, relabelled, set_label_by}
+use Rattle.labels.proofs.Labels.{length_by, by_cong, set_label_by}
 use Rattle.book.specs.Records.{LabelRecord, label_of, labels_format}
 use Rattle.book.specs.Layout.{label_section, decode}
 use Rattle.book.specs.Refusals.{verdict}

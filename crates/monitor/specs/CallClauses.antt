@@ -1,5 +1,5 @@
 -- What each part of a call gives, at its limits: the clauses of Call.antt one by one.
-use Rattle.std.specs.Prelude.{◌≡◌, List, [], ◌∷◌, ◌++◌, map, Bool, true, false, ℕ, ◌+◌, ◌^◌, pos, negsuc, get_or, take, drop, replicate}
+use Rattle.std.specs.Prelude.{◌≡◌, List, [], ◌∷◌, ◌++◌, map, Bool, true, false, ℕ, ◌^◌, pos, negsuc, get_or, take, drop, replicate}
 use Rattle.book.specs.Records.{Book}
 use Rattle.book.specs.Encode.{encode}
 use Rattle.book.specs.Tables.{cell, table_region, public, may_write, constant, variable, sum, both, put, clear, out, raise, program, trigger, w_file}

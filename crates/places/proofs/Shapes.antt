@@ -79,7 +79,7 @@ unfolding word_of
 word_of_one k zero h = absurd (not-suc-le-zero h)
 word_of_one k (suc n) h =
     ⊎_elim
-    (λ (e : k ≡ n). rw (e, eq-eqb n n refl) (ap (λ (m : ℕ). m + 2 ^ n) (word_of_cong (λ i. eqb i n) (λ i. false) n (λ i l. ne_eqb i n (λ q. omega arith)) ∙ word_of_none n) ∙ omega arith))
+    (λ (e : k ≡ n). rw (e, eq-eqb n n refl) (ap (λ (m : ℕ). m + 2 ^ n) (word_of_cong (λ i. eqb i k) (λ i. false) n (λ i l. ne_eqb i k (λ q. omega arith)) ∙ word_of_none n) ∙ omega arith))
     (λ (l : k < n). rw (ne_eqb n k (λ q. omega arith)) (omega (arith, word_of_one k n l)))
     (eq-or-lt_of_le (le_of_suc-le-suc h))
 

@@ -25,7 +25,7 @@ use Rattle.puts.specs.Writing.{NewAmount}
 
 -- a known value as it is read back from its bits
 pub read_back : {v : Value} {z : ℤ} → v ≡ value.Known z → mag z < 2 ^ 31 → v ≡ value.Known (to_z w32 (of_z w32 z))
-read_back e h = e ∙ ap value.Known (sym (to_z-of_z (sfits_of h)))
+read_back e h = e ∙ ap value.Known (sym (to_z-of_z {w = w32} (sfits_of h)))
 
 put_is : (code : List ℕ) (n event : ℕ) {a : ℕ} → event ≡ 1 → a ≡ (node_at (script_of code) n).c → NewAmount code n event ≡ Evaluates code a
 unfolding NewAmount

@@ -14,7 +14,7 @@ use Rattle.book.specs.Refusals.{length_fits, mark_fits, sections_fit, verdict}
 use Rattle.book.specs.declared.Section.{Section}
 use Rattle.book.specs.declared.Verdict.TheVariants.{Accepted}
 use Rattle.book.proofs.Decoded.{count_cells, count_regions, count_rights, count_nodes, count_programs, count_triggers, count_labels}
-use Rattle.book.proofs.Accepted.{Sited, accepted, placed, cells_inside, regions_inside, rights_inside, nodes_inside, programs_inside, triggers_inside, labels_inside}
+use Rattle.book.proofs.Accepted.{Sited, placed, cells_inside, regions_inside, rights_inside, nodes_inside, programs_inside, triggers_inside, labels_inside}
 use Rattle.book.specs.Encode.{six_extents, other_sections, tail_bytes, encode}
 use Rattle.encoder.proofs.Codec.{Codec, AllKept, length_section, section_same, section_back, all_kept, cells_codec, regions_codec, rights_codec, nodes_codec, programs_codec, triggers_codec, labels_codec}
 use Rattle.writer.proofs.Trailer.{Counts, Few, counts_of, tail_of, from_cells, Trailed, trailed, found, found_few, tail_stands, length_passes, version_passes, mark_passes, sections_pass}

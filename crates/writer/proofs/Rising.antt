@@ -63,17 +63,17 @@ module _ {A : Type 0} (place : A → ℕ) (fits : A → Bool) where
         let e = both (fits c) true (not-false _ (h 0 (omega arith))) in
         next {p = 0} {c = c} (omega arith) e.0 (good_after c cs (λ i l. h (suc i) (omega arith)))
 
-    after_good : (c : A) {cs : List A} → Rises (suc (place c)) cs → (i : ℕ) → i < length cs → bad (c ∷ cs) (suc i) ≡ false
+    after_good : (c : A) {p : ℕ} {cs : List A} → place c < p → Rises p cs → (i : ℕ) → i < length cs → bad (c ∷ cs) (suc i) ≡ false
     unfolding rises
-    after_good c ended i h = absurd (not-suc-le-zero h)
-    after_good c (next {c = d} l f r) zero h = ap not (pass f (lt-ltb (place c) (place d) l))
-    after_good c (next {c = d} l f r) (suc i) h = after_good d r i (le_of_suc-le-suc h)
+    after_good c k ended i h = absurd (not-suc-le-zero h)
+    after_good c k (next {c = d} l f r) zero h = ap not (pass f (lt-ltb (place c) (place d) (omega arith)))
+    after_good c k (next {c = d} l f r) (suc i) h = after_good d (omega arith) r i (le_of_suc-le-suc h)
 
     pub rising_good : {cs : List A} → Rises 0 cs → (i : ℕ) → i < length cs → bad cs i ≡ false
     unfolding rises
     rising_good ended i h = absurd (not-suc-le-zero h)
     rising_good (next {c = c} l f r) zero h = ap not (pass f refl)
-    rising_good (next {c = c} l f r) (suc i) h = after_good c r i (le_of_suc-le-suc h)
+    rising_good (next {c = c} l f r) (suc i) h = after_good c (omega arith) r i (le_of_suc-le-suc h)
 
   -- ---- what is found at a place
 
