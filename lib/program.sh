@@ -9,31 +9,31 @@ fail() {
     exit 2
 }
 
-# Proves and builds a program and all that it needs; rt keeps what did not change.
+# Where rt builds a program.
+program_of() {
+    printf '%s/crates/%s/out/%s' "$root" "$1" "$1"
+}
+
+# Proves and builds a program and all that it needs; rt keeps what did not change. rt also runs what it built, here on no input.
 build() {
     command -v rt >/dev/null || fail 'the program is to be built, which needs the Rattle kit, and there is no rt in the PATH'
     echo "$command: proving and building the program, which takes some minutes the first time" >&2
-    (cd "$root" && rt check "$1" | grep --line-buffered '^rt: ') >&2 || fail 'the program could not be built (target/log has what was said)'
-    touch "$root/target/built-$1"
+    (cd "$root/crates/$1" && rt run </dev/null >/dev/null) || fail 'the program could not be built'
+    touch "$(program_of "$1")"
 }
 
-# Builds a program unless the last build that passed is newer than all sources.
+# Builds a program unless the last one is newer than all sources; what a check keeps in the crates' out/ is none.
 build_if_needed() {
-    local built=$root/target/built-$1
-    if [ ! -x "$root/target/bin/$1" ] || [ ! -e "$built" ] || [ -n "$(find "$root/crates.txt" "$root/crates" -newer "$built" -print -quit)" ]; then
+    local program
+    program=$(program_of "$1")
+    if [ ! -x "$program" ] || [ "$root/crates.txt" -nt "$program" ] || [ -n "$(find "$root/crates" -mindepth 2 -regex '.*/crates/[^/]*/out' -prune -o -newer "$program" -print -quit)" ]; then
         build "$1"
     fi
 }
 
-# The programs are for x86-64; elsewhere they run as rt runs them, under the kit's emulator.
 run() {
-    if [ "$(uname -m)" = x86_64 ]; then
-        "$root/target/bin/$1"
-        return
-    fi
-    local tools
-    tools=$(dirname "$(dirname "$(rt doc)")")/on/$(uname -m)/toolchain
-    "$tools/bin/qemu-x86_64" "$tools/lib/ld-linux-x86-64.so.2" --library-path "$tools/lib" "$root/target/bin/$1"
+    [ "$(uname -m)" = x86_64 ] || fail 'the programs are for x86-64'
+    "$(program_of "$1")"
 }
 
 # Fails unless there is such a file and it can be read.

@@ -3,8 +3,8 @@
  *
  * To compile and run it, in the folder of the repository:
  *
- *     rt staticlib capi
- *     cc -std=c11 -I crates/capi/include -o example examples/c/example.c target/staticlib/libcapi.a
+ *     (cd crates/capi && rt lib)
+ *     cc -std=c11 -I crates/capi/include -o example examples/c/example.c crates/capi/out/libcapi.a
  *     ./example examples/w.book
  *
  * w.out, posting.out, correction.out, leak.out, monday.out and tuesday.out have what it has to print for these books, which the
