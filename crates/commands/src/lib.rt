@@ -99,7 +99,7 @@ fn enter(
         20 => repeat(code, n, who, ctx, vars, tags, cells, sets, run, trace),
         21 => post(code, n, who, 1, ctx, vars, tags, cells, sets, run, trace),
         22 => post(code, n, who, 2, ctx, vars, tags, cells, sets, run, trace),
-        // Two calls, so that no compiler puts the frame of `act` into that of each command of a chain.
+        // Two calls: with one, Rattle's own compiler puts the frame of `act` into that of each nested command.
         17 => actions::act(code, n, who, ctx, vars, tags, cells, sets, run, trace),
         _ => actions::act(code, n, who, ctx, vars, tags, cells, sets, run, trace),
     }
