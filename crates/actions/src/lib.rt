@@ -5,36 +5,30 @@ ghost use Rattle.std.specs.Prelude.{◌≡◌, false};
 ghost use Rattle.book.specs.Kinds.{command, between};
 ghost use Rattle.book.specs.Refusals.{node_at};
 ghost use Rattle.machine.specs.Script.{script_of, Node};
-ghost use Rattle.machine.specs.Store.{vars_of, store, Lent};
-ghost use Rattle.machine.specs.Promises.{Does, Commands, who_of};
+ghost use Rattle.machine.specs.Store.{vars_of, store_of, Public};
+ghost use Rattle.machine.specs.Promises.{Does, Commands};
 
-use machine::{Outcome, Run, Script, Sets, Who};
+use machine::{Env, Script, Stopped, Store, Variables};
 
 // Does what a command says that is neither 18 to 20, which enter others, nor 21 or 22, which fire triggers.
 pub fn act(
-    code: &Script,
+    script: Script,
     n: usize,
-    who: &Who,
-    ctx: &[u64; 8],
-    vars: &mut [i32; 16],
-    tags: &mut [[u64; 8]; 16],
-    cells: &[i32; 512],
-    sets: &mut Sets,
-    run: &mut Run,
-    trace: &mut [u8],
-) -> Outcome
-    requires lent { Lent code.now sets.old run.old trace.old }
-    requires node { Node command (script_of code.now) n × (between 18 22 (node_at (script_of code.now) n).kind ≡ false) }
-    ensures { Does (Commands code.now ctx.now (who_of who.now) n)
-        (vars_of vars.old tags.old) (store cells.now sets.old run.old trace.old) result
-        (vars_of vars.new tags.new) (store cells.now sets.new run.new trace.new) }
+    env: &Env,
+    vars: &mut Variables,
+    store: &mut Store,
+) -> Result<(), Stopped>
+    requires public_set { Public script.bytes.now store.old.sets }
+    requires node { Node command (script_of script.bytes.now) n × (between 18 22 (node_at (script_of script.bytes.now) n).kind ≡ false) }
+    ensures { Does (Commands script.entry.bytes.now env.now.ctx env.now.who n)
+        (vars_of vars.old) (store_of store.old) result (vars_of vars.new) (store_of store.new) }
 {
-    let kind = code[16 * n];
-    match kind {
-        17 => assignments::assign(code, n, ctx, vars, tags, cells, sets, run),
-        23 => outputs::out(code, n, ctx, vars, tags, cells, sets, run, trace),
-        24 | 25 => grants::change(code, n, who, ctx, sets, run, trace),
-        26 => assignments::raise(code, n, ctx, tags, sets, run),
-        _ => Outcome::Done,
+    let bytes = script.bytes;
+    match bytes[16 * n] {
+        17 => assignments::assign(script, n, env, vars, store),
+        23 => outputs::out(script, n, env, vars, store),
+        24 | 25 => grants::change(script, n, env, store),
+        26 => assignments::raise(script, n, env, vars, store),
+        _ => Ok(()),
     }
 }

@@ -1,77 +1,73 @@
 // Commands that write variables: assignment and raise.
 #![tactic(auto)]
 
-ghost use Rattle.std.specs.Prelude.{◌≡◌, List, ℕ, ◌≤◌, ℤ, length};
+ghost use Rattle.std.specs.Prelude.{◌≡◌};
 ghost use Rattle.book.specs.Kinds.{command};
 ghost use Rattle.book.specs.Refusals.{node_at};
-ghost use Rattle.machine.specs.Script.{script_of, Runnable, Node};
-ghost use Rattle.machine.specs.Store.{used_of, vars_of, store};
-ghost use Rattle.machine.specs.Promises.{Does, Commands, Who};
+ghost use Rattle.machine.specs.Script.{script_of, Node};
+ghost use Rattle.machine.specs.Store.{vars_of, store_of};
+ghost use Rattle.machine.specs.Promises.{Does, Commands};
 
-use machine::{Outcome, Run, Script, Sets, Value};
+use machine::{Env, Scene, Script, Stopped, Store, Variables};
 
 // 17: variable p becomes a. Stop 25 where the context is not within the variable's old label.
 pub fn assign(
-    code: &Script,
+    script: Script,
     n: usize,
-    ctx: &[u64; 8],
-    vars: &mut [i32; 16],
-    tags: &mut [[u64; 8]; 16],
-    cells: &[i32; 512],
-    sets: &mut Sets,
-    run: &mut Run,
-) -> Outcome
-    requires { Runnable code.now × Node command (script_of code.now) n × ((node_at (script_of code.now) n).kind ≡ 17) }
-    ensures { (who : Who) (trace : List ℕ) → used_of run.old ≤ length trace → Does (Commands code.now ctx.now who n)
-        (vars_of vars.old tags.old) (store cells.now sets.old run.old trace) result
-        (vars_of vars.new tags.new) (store cells.now sets.new run.new trace) }
+    env: &Env,
+    vars: &mut Variables,
+    store: &mut Store,
+) -> Result<(), Stopped>
+    requires { Node command (script_of script.bytes.now) n × ((node_at (script_of script.bytes.now) n).kind ≡ 17) }
+    ensures { Does (Commands script.entry.bytes.now env.now.ctx env.now.who n)
+        (vars_of vars.old) (store_of store.old) result (vars_of vars.new) (store_of store.new) }
 {
-    let values: &[i32] = vars;
-    let labels: &[[u64; 8]] = tags;
+    let bytes = script.bytes;
     let at = 16 * n;
-    let a = numbers::u16_at(code, at + 2);
-    let mut label = *ctx;
-    let Value::Known(amount) = expressions::eval(code, a, vars, tags, cells, sets, run, &mut label)
-    else {
-        return Outcome::Stopped;
+    let a = numbers::u16_at(bytes, at + 2);
+    let mut label = env.ctx;
+    let scene = Scene {
+        script,
+        vars,
+        amounts: &store.amounts,
+        sets: &store.sets,
     };
-    let p = numbers::byte_at(code, at + 1);
-    let context = *ctx;
-    let old = tags[p];
-    let compared = places::within(context, old);
+    // Let else and not `?`: the customer's document fixes this form for a child's answer.
+    let Ok(amount) = expressions::eval(&scene, a, &mut store.run, &mut label) else {
+        return Err(Stopped);
+    };
+    let p = numbers::byte_at(bytes, at + 1);
+    let old = &vars.labels[p];
+    let compared = places::within(env.ctx, *old);
     if !compared.inside {
-        return machine::stop_outside(run, sets, 25, n, ctx, &tags[p]);
+        return Err(machine::stop_outside(&mut store.run, &mut store.sets, 25, n, &env.ctx, old));
     }
-    vars[p] = amount;
-    tags[p] = label;
-    Outcome::Done
+    vars.values[p] = amount;
+    vars.labels[p] = label;
+    Ok(())
 }
 
 // 26: variable p is raised by region a, under the same test.
 pub fn raise(
-    code: &Script,
+    script: Script,
     n: usize,
-    ctx: &[u64; 8],
-    tags: &mut [[u64; 8]; 16],
-    sets: &mut Sets,
-    run: &mut Run,
-) -> Outcome
-    requires { Runnable code.now × Node command (script_of code.now) n × ((node_at (script_of code.now) n).kind ≡ 26) }
-    ensures { (who : Who) (vars cells : List ℤ) (trace : List ℕ) → used_of run.old ≤ length trace
-        → Does (Commands code.now ctx.now who n)
-        (vars_of vars tags.old) (store cells sets.old run.old trace) result
-        (vars_of vars tags.new) (store cells sets.new run.new trace) }
+    env: &Env,
+    vars: &mut Variables,
+    store: &mut Store,
+) -> Result<(), Stopped>
+    requires { Node command (script_of script.bytes.now) n × ((node_at (script_of script.bytes.now) n).kind ≡ 26) }
+    ensures { Does (Commands script.entry.bytes.now env.now.ctx env.now.who n)
+        (vars_of vars.old) (store_of store.old) result (vars_of vars.new) (store_of store.new) }
 {
-    let labels: &[[u64; 8]] = tags;
+    let bytes = script.bytes;
     let at = 16 * n;
-    let p = numbers::byte_at(code, at + 1);
-    let context = *ctx;
-    let held = tags[p];
-    let compared = places::within(context, held);
+    let p = numbers::byte_at(bytes, at + 1);
+    let held = &vars.labels[p];
+    let compared = places::within(env.ctx, *held);
     if !compared.inside {
-        return machine::stop_outside(run, sets, 25, n, ctx, &held);
+        return Err(machine::stop_outside(&mut store.run, &mut store.sets, 25, n, &env.ctx, held));
     }
-    let region = machine::region_places(code, numbers::u16_at(code, at + 2));
-    tags[p] = places::union(held, region);
-    Outcome::Done
+    let region = machine::region_places(script, numbers::u16_at(bytes, at + 2));
+    machine::join(&mut vars.labels[p], region);
+    Ok(())
 }

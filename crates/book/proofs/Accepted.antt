@@ -12,11 +12,12 @@ use Rattle.book.specs.Records.{RegionRecord, cells_format, regions_format, right
 use Rattle.book.specs.Layout.{trailer, remembers, tail_size, distance, count, section, label_section, bound, six_bounds, in_order, decode}
 use Rattle.book.specs.Refusals.{need, blame, length_fits, mark_fits, sections_fit, Laid, bad_cell, no_region, region_fits, bad_region, bad_right, bad_node, bad_program, bad_trigger, bad_label, book_verdict, verdict}
 use Rattle.book.specs.declared.Section.{Section}
-use Rattle.book.specs.declared.Verdict.TheVariants.{Accepted}
+use Rattle.std.specs.Prelude.{Ok}
 use Rattle.book.proofs.Chains.{both}
 use Rattle.book.proofs.Verdicts.{accepts_both, need_accepts, blame_accepts}
 use Rattle.book.proofs.Sections.{first_in_order, last_in_order, in_order_back, in_order_room}
 use Rattle.book.proofs.Decoded.{count_cells, count_regions, count_rights, count_nodes, count_programs, count_triggers, count_labels, region_read}
+use Rattle.book.specs.declared.Reason.TheVariants as reasons
 
 -- where the sections lie: what passing refusals 2 and 4 tells
 pub record Sited (s : List ℕ) : Type 0 where
@@ -154,32 +155,32 @@ pub record Good (s : List ℕ) : Type 0 where
   pub triggers_ok : (i : ℕ) → i < count s 5 → bad_trigger (decode s) i ≡ false
   pub labels_ok : (i : ℕ) → i < (label_section s).count → bad_label (decode s).labels i ≡ false
 
-pub accepted : (s : List ℕ) → verdict s ≡ Accepted → Good s
+pub accepted : (s : List ℕ) → verdict s ≡ Ok tt → Good s
 unfolding verdict book_verdict
 accepted s e =
-    let length_in = accepts_both (need 2 (length_fits s)) _ e in
-    let mark_in = accepts_both (need 3 (mark_fits s)) _ length_in.1 in
-    let sections_in = accepts_both (need 4 (sections_fit s)) _ mark_in.1 in
-    let cells_in = accepts_both (blame 5 (bad_cell (decode s).cells) (length (decode s).cells)) _ sections_in.1 in
-    let regions_in = accepts_both (blame 6 (bad_region (decode s).regions) (length (decode s).regions)) _ cells_in.1 in
-    let rights_in = accepts_both (blame 7 (bad_right (decode s)) (length (decode s).rights)) _ regions_in.1 in
-    let nodes_in = accepts_both (blame 8 (bad_node (decode s)) (length (decode s).nodes)) _ rights_in.1 in
-    let programs_in = accepts_both (blame 9 (bad_program (decode s)) (length (decode s).programs)) _ nodes_in.1 in
-    let triggers_in = accepts_both (blame 10 (bad_trigger (decode s)) (length (decode s).triggers)) _ programs_in.1 in
+    let length_in = accepts_both (need reasons.Length (length_fits s)) _ e in
+    let mark_in = accepts_both (need reasons.Mark (mark_fits s)) _ length_in.1 in
+    let sections_in = accepts_both (need reasons.Sections (sections_fit s)) _ mark_in.1 in
+    let cells_in = accepts_both (blame reasons.Cell (bad_cell (decode s).cells) (length (decode s).cells)) _ sections_in.1 in
+    let regions_in = accepts_both (blame reasons.Region (bad_region (decode s).regions) (length (decode s).regions)) _ cells_in.1 in
+    let rights_in = accepts_both (blame reasons.Right (bad_right (decode s)) (length (decode s).rights)) _ regions_in.1 in
+    let nodes_in = accepts_both (blame reasons.Node (bad_node (decode s)) (length (decode s).nodes)) _ rights_in.1 in
+    let programs_in = accepts_both (blame reasons.Program (bad_program (decode s)) (length (decode s).programs)) _ nodes_in.1 in
+    let triggers_in = accepts_both (blame reasons.Trigger (bad_trigger (decode s)) (length (decode s).triggers)) _ programs_in.1 in
     record {
-      length_ok = need_accepts 2 _ length_in.0;
-      mark_ok = need_accepts 3 _ mark_in.0;
-      sections_ok = need_accepts 4 _ sections_in.0;
-      cells_ok = rw count_cells at (blame_accepts 5 _ _ cells_in.0);
-      regions_ok = rw count_regions at (blame_accepts 6 _ _ regions_in.0);
-      rights_ok = rw count_rights at (blame_accepts 7 _ _ rights_in.0);
-      nodes_ok = rw count_nodes at (blame_accepts 8 _ _ nodes_in.0);
-      programs_ok = rw count_programs at (blame_accepts 9 _ _ programs_in.0);
-      triggers_ok = rw count_triggers at (blame_accepts 10 _ _ triggers_in.0);
-      labels_ok = rw count_labels at (blame_accepts 32 _ _ triggers_in.1);
+      length_ok = need_accepts reasons.Length _ length_in.0;
+      mark_ok = need_accepts reasons.Mark _ mark_in.0;
+      sections_ok = need_accepts reasons.Sections _ sections_in.0;
+      cells_ok = rw count_cells at (blame_accepts reasons.Cell _ _ cells_in.0);
+      regions_ok = rw count_regions at (blame_accepts reasons.Region _ _ regions_in.0);
+      rights_ok = rw count_rights at (blame_accepts reasons.Right _ _ rights_in.0);
+      nodes_ok = rw count_nodes at (blame_accepts reasons.Node _ _ nodes_in.0);
+      programs_ok = rw count_programs at (blame_accepts reasons.Program _ _ programs_in.0);
+      triggers_ok = rw count_triggers at (blame_accepts reasons.Trigger _ _ triggers_in.0);
+      labels_ok = rw count_labels at (blame_accepts reasons.Label _ _ triggers_in.1);
     }
 
-pub placed : (s : List ℕ) → verdict s ≡ Accepted → Sited s
+pub placed : (s : List ℕ) → verdict s ≡ Ok tt → Sited s
 placed s v = sited s (accepted s v).length_ok (accepted s v).sections_ok
 
 -- what the record of region j tells that passed its check

@@ -6,7 +6,8 @@ use native.Mathlib.Decide.{ℕ_discrete}
 use native.Mathlib.Omega.{arith}
 use lib.Dec.{ltb}
 use borrow.Author.Tests.{lt-ltb, le-ltb, ltb-false}
-use Rattle.book.specs.Refusals.{first}
+use Rattle.std.specs.Prelude.{Some, None}
+use Rattle.book.specs.Refusals.{first, first_bad}
 
 -- f picks none of the numbers below i
 pub record NoneBelow (f : ℕ → Bool) (i : ℕ) : Type 0 where
@@ -49,6 +50,14 @@ module _ (f : ℕ → Bool) where
       go (no q) ih =
           let z : first f n ≡ i = ih (omega arith) in
           rw (z, lt-ltb i n (omega arith))
+
+  pub first_bad_none : (n : ℕ) → NoneBelow f n → first_bad f n ≡ None
+  unfolding first_bad
+  first_bad_none n b = rw (first_none n b, le-ltb n n (omega arith))
+
+  pub first_bad_found : (n i : ℕ) → i < n → NoneBelow f i → f i ≡ true → first_bad f n ≡ Some i
+  unfolding first_bad
+  first_bad_found n i h b e = rw (first_found n i h b e, lt-ltb i n h)
 
   pub first_le : (n : ℕ) → first f n ≤ n
   unfolding first

@@ -1,14 +1,15 @@
 -- The loops that look for the first bad record of a section. Assumes nothing.
-use mathlib.Core.Path.{◌≡◌, sym, ap, ◌∙◌}
+use mathlib.Core.Path.{◌≡◌, sym, ap}
 use mathlib.Core.Bool.{Bool, true, false}
 use mathlib.Core.List.{List}
 use Prim.Native.Nat.{ℕ, ◌+◌, ◌*◌, ◌≤◌, ◌<◌}
 use native.Mathlib.Omega.{arith}
 use lib.ListN.{length}
 use Rattle.book.specs.Layout.{section}
-use Rattle.book.specs.Refusals.{first}
+use Rattle.std.specs.Prelude.{Some, None}
+use Rattle.book.specs.Refusals.{first_bad}
 use Rattle.book.specs.declared.Section.{Section}
-use Rattle.book.proofs.First.{NoneBelow, none_yet, none_next, first_none, first_found}
+use Rattle.book.proofs.First.{NoneBelow, none_yet, none_next, first_bad_none, first_bad_found}
 
 -- the n records of section x, of `size` bytes each from byte `start` on, lie in the file, and none of the first i is bad
 pub record ScanOf (s : List ℕ) (x : Section) (size : ℕ) (bad : ℕ → Bool) (start n i : ℕ) : Type 0 where
@@ -33,10 +34,10 @@ module _ {s : List ℕ} {x : Section} {size : ℕ} {bad : ℕ → Bool} where
   scan_next {i = i} c h e =
       record { starts = c.starts; counts = c.counts; inside = c.inside; passed = omega arith; none = none_next bad i c.none e }
 
-  pub scan_found : {start n i : ℕ} → ScanOf s x size bad start n i → i < n → bad i ≡ true → i ≡ first bad x.count
-  scan_found {i = i} c h e = sym (first_found bad x.count i (omega arith) c.none e)
+  pub scan_found : {start n i : ℕ} → ScanOf s x size bad start n i → i < n → bad i ≡ true → Some i ≡ first_bad bad x.count
+  scan_found {i = i} c h e = sym (first_bad_found bad x.count i (omega arith) c.none e)
 
-  pub scan_ends : {start n i : ℕ} → ScanOf s x size bad start n i → n ≤ i → n ≡ first bad x.count
+  pub scan_ends : {start n i : ℕ} → ScanOf s x size bad start n i → n ≤ i → None ≡ first_bad bad x.count
   scan_ends {n = n} {i = i} c h =
       let e : i ≡ x.count = omega arith in
-      c.counts ∙ sym (first_none bad x.count (rw e at c.none))
+      sym (first_bad_none bad x.count (rw e at c.none))

@@ -1,6 +1,6 @@
 -- Worked examples of this crate's definitions, worked out by hand from the paper: for each clause, and each part of it, a row that
 -- would not hold if it said something else. docs/CLAIMS.md tells which.
-use Rattle.std.specs.Prelude.{◌≡◌, List, [], ◌∷◌, ◌++◌, map, Bool, false, ℕ, ◌+◌, ◌*◌, ◌<◌, eqb, leb, ℤ, pos, negsuc, length, drop, replicate}
+use Rattle.std.specs.Prelude.{◌≡◌, List, [], ◌∷◌, ◌++◌, map, Bool, false, ℕ, ◌+◌, ◌*◌, ◌<◌, eqb, leb, ℤ, pos, negsuc, length, drop, replicate, Ok, Err}
 use Rattle.places.specs.Sets.{single}
 use Rattle.labels.specs.Labels.{label_at}
 use Rattle.book.specs.Bytes.{le32}
@@ -8,12 +8,12 @@ use Rattle.book.specs.Records.{CellRecord, RegionRecord, RightRecord, NodeRecord
 use Rattle.book.specs.Layout.{Bound, bounds, in_order, decode}
 use Rattle.book.specs.Kinds as kinds
 use Rattle.book.specs.Kinds.{no_kind, expression, command, unused, table, user, region, right, row_of}
-use Rattle.book.specs.Refusals.{first, length_fits, mark_fits, sections_fit, cell_fits, no_cell, rises, no_label, labelled, label_fits, region_fits, right_fits, field_fits, node_fits, program_fits, forbidden, reaches, trigger_fits, book_verdict, verdict}
+use Rattle.book.specs.Refusals.{first, length_fits, mark_fits, sections_fit, cell_fits, no_cell, rises, no_label, labelled, label_fits, region_fits, right_fits, field_fits, node_fits, program_fits, forbidden, reaches, trigger_fits, book_verdict, verdict, refusal_of}
 use Rattle.book.specs.Start.{Lengths, tabulate, start_amounts, start_presence, remembered, start_labels, public_set, read_sets, write_sets}
 use Rattle.book.specs.Encode.{tail_bytes, encode, labels_from, with_cells}
 use Rattle.book.specs.Tables.{cell, table_region, owner_region, public, may_read, may_write, node, constant, variable, plus, count, skip, assign, both, if, while, put, clear, out, grant_read, grant_write, revoke_read, raise, program, trigger, remember, w_file, w_file_2, w_book, with_byte, one_more, one_less, ◌⇒◌, Gives, Tells}
 use Rattle.book.specs.declared.Row.{Row}
-use Rattle.book.specs.declared.Verdict.TheVariants.{Accepted, Refused}
+use Rattle.book.specs.declared.Reason.TheVariants as reasons
 
 -- ---- files
 
@@ -361,12 +361,12 @@ pub record FileExamples : Type 0 where
   pub most_six : bounds w_file ≡ at_most 512 8 ∷ at_most 64 8 ∷ at_most 64 4 ∷ at_most 1024 16 ∷ at_most 8 4 ∷ at_most 8 8 ∷ []
   -- of several faults the lowest number
   pub verdicts : Gives verdict
-      (w_file ⇒ Accepted
-      ∷ w_file_2 ⇒ Accepted
-      ∷ w_cell_bad ⇒ Refused 5 0
-      ∷ w_count_bad ⇒ Refused 4 0
-      ∷ w_mark_bad ⇒ Refused 3 0
-      ∷ w_length_bad ⇒ Refused 2 0
+      (w_file ⇒ Ok tt
+      ∷ w_file_2 ⇒ Ok tt
+      ∷ w_cell_bad ⇒ Err (refusal_of reasons.Cell 0)
+      ∷ w_count_bad ⇒ Err (refusal_of reasons.Sections 0)
+      ∷ w_mark_bad ⇒ Err (refusal_of reasons.Mark 0)
+      ∷ w_length_bad ⇒ Err (refusal_of reasons.Length 0)
       ∷ [])
 
 -- refusals 5 to 10 and 32
@@ -376,16 +376,16 @@ pub record RecordExamples : Type 0 where
   pub first_of_none : first (eqb 0) 0 ≡ 0
   -- of several faults the lowest number, though the bad record is the last of its section; and no fault
   pub verdicts : Gives book_verdict
-      (followed cell_last region_last right_last node_last program_last trigger_last label_last ⇒ Refused 5 2
-      ∷ followed [] region_last right_last node_last program_last trigger_last label_last ⇒ Refused 6 4
-      ∷ followed [] [] right_last node_last program_last trigger_last label_last ⇒ Refused 7 3
-      ∷ followed [] [] [] node_last program_last trigger_last label_last ⇒ Refused 8 2
-      ∷ followed [] [] [] [] program_last trigger_last label_last ⇒ Refused 9 1
-      ∷ followed [] [] [] [] [] trigger_last label_last ⇒ Refused 10 2
-      ∷ followed [] [] [] [] [] [] label_last ⇒ Refused 32 3
-      ∷ followed [] [] [] [] [] [] (remember 512 [] ∷ []) ⇒ Refused 32 3
-      ∷ followed cell_last [] [] [] [] [] [] ⇒ Refused 5 2
-      ∷ followed [] [] [] [] [] [] [] ⇒ Accepted
+      (followed cell_last region_last right_last node_last program_last trigger_last label_last ⇒ Err (refusal_of reasons.Cell 2)
+      ∷ followed [] region_last right_last node_last program_last trigger_last label_last ⇒ Err (refusal_of reasons.Region 4)
+      ∷ followed [] [] right_last node_last program_last trigger_last label_last ⇒ Err (refusal_of reasons.Right 3)
+      ∷ followed [] [] [] node_last program_last trigger_last label_last ⇒ Err (refusal_of reasons.Node 2)
+      ∷ followed [] [] [] [] program_last trigger_last label_last ⇒ Err (refusal_of reasons.Program 1)
+      ∷ followed [] [] [] [] [] trigger_last label_last ⇒ Err (refusal_of reasons.Trigger 2)
+      ∷ followed [] [] [] [] [] [] label_last ⇒ Err (refusal_of reasons.Label 3)
+      ∷ followed [] [] [] [] [] [] (remember 512 [] ∷ []) ⇒ Err (refusal_of reasons.Label 3)
+      ∷ followed cell_last [] [] [] [] [] [] ⇒ Err (refusal_of reasons.Cell 2)
+      ∷ followed [] [] [] [] [] [] [] ⇒ Ok tt
       ∷ [])
   -- 5: table, owner, line up to 7, and a byte 0
   pub cells : Tells cell_fits

@@ -1,12 +1,34 @@
 -- Refusals 2 to 10 and 32: the number and the first bad record's index, in the paper's order.
-use Rattle.std.specs.Prelude.{◌≡◌, List, [], ◌∷◌, Bool, true, false, ◌&&◌, ◌||◌, not, cond, ℕ, zero, suc, ◌+◌, eqb, leb, ltb, ℤ, pos, negsuc, length, get_or}
+use Rattle.std.specs.Prelude.{◌≡◌, List, [], ◌∷◌, Bool, true, false, ◌&&◌, ◌||◌, not, cond, ℕ, zero, suc, ◌+◌, eqb, leb, ltb, ℤ, pos, negsuc, length, get_or, Option, Some, None, Result, Ok, Err}
 use Rattle.labels.specs.Labels.{is_own}
 use Rattle.book.specs.Bytes.{byte, le24, le32}
 use Rattle.book.specs.Records.{CellRecord, RegionRecord, RightRecord, NodeRecord, ProgramRecord, TriggerRecord, LabelRecord, Book, place_of, label_of}
 use Rattle.book.specs.Layout.{trailer, version, bounds, in_order, decode}
 use Rattle.book.specs.Kinds.{no_kind, expression, command, variable, table, user, region, right, constant, between, sort_of, Fields, fields_of}
-use Rattle.book.specs.declared.Verdict.{Verdict}
-use Rattle.book.specs.declared.Verdict.TheVariants.{Accepted, Refused}
+use Rattle.book.specs.declared.Reason.{Reason}
+use Rattle.book.specs.declared.Refusal.{Refusal}
+use Rattle.book.specs.declared.Reason.TheVariants as reasons
+
+-- the paper's number of each reason
+abbrev pub number_of : Reason → ℕ
+number_of reasons.Lent = 1
+number_of reasons.Length = 2
+number_of reasons.Mark = 3
+number_of reasons.Sections = 4
+number_of reasons.Cell = 5
+number_of reasons.Region = 6
+number_of reasons.Right = 7
+number_of reasons.Node = 8
+number_of reasons.Program = 9
+number_of reasons.Trigger = 10
+number_of reasons.Label = 32
+
+abbrev pub refusal_of : Reason → ℕ → Refusal
+refusal_of why index = record { reason = why; index = index }
+
+-- what the checks of a file find: nothing wrong, or a refusal
+abbrev pub Verdict : Type 0
+Verdict = Result (Unit {0}) Refusal
 
 -- a verdict in the paper's numbers
 pub record VerdictValues : Type 0 where
@@ -15,17 +37,17 @@ pub record VerdictValues : Type 0 where
 
 -- of a file that is accepted both are 0
 unfoldable pub verdict_values : Verdict → VerdictValues
-verdict_values Accepted = record { number = 0; index = 0 }
-verdict_values (Refused number index) = record { number = number; index = index }
+verdict_values (Ok _) = record { number = 0; index = 0 }
+verdict_values (Err refusal) = record { number = number_of refusal.reason; index = refusal.index }
 
 -- the first of two verdicts that refuses
 unfoldable pub and_then : Verdict → Verdict → Verdict
-and_then Accepted v = v
-and_then (Refused number index) v = Refused number index
+and_then (Ok _) v = v
+and_then (Err refusal) v = Err refusal
 
--- refusal `number`, with index 0, unless the test holds
-unfoldable pub need : ℕ → Bool → Verdict
-need number test = cond test Accepted (Refused number 0)
+-- the refusal for this reason, with index 0, unless the test holds
+unfoldable pub need : Reason → Bool → Verdict
+need why test = cond test (Ok tt) (Err (refusal_of why 0))
 
 -- the first number below n that f picks, or n if there is none
 unfoldable pub first : (ℕ → Bool) → ℕ → ℕ
@@ -34,9 +56,18 @@ first f (suc n) =
     let k : ℕ = first f n in
     cond (ltb k n) k (cond (f n) n (suc n))
 
--- refusal `number` at the first bad one of n records, where there is one
-unfoldable pub blame : ℕ → (ℕ → Bool) → ℕ → Verdict
-blame number bad n = cond (ltb (first bad n) n) (Refused number (first bad n)) Accepted
+-- the first bad one of n records, where there is one
+unfoldable pub first_bad : (ℕ → Bool) → ℕ → Option ℕ
+first_bad bad n = cond (ltb (first bad n) n) (Some (first bad n)) None
+
+-- the refusal for this reason of a record that was found to be bad
+abbrev pub refused_at : Reason → Option ℕ → Verdict
+refused_at why None = Ok tt
+refused_at why (Some index) = Err (refusal_of why index)
+
+-- the refusal for this reason of the first bad one of n records, where there is one
+unfoldable pub blame : Reason → (ℕ → Bool) → ℕ → Verdict
+blame why bad n = cond (ltb (first bad n) n) (Err (refusal_of why (first bad n))) (Ok tt)
 
 -- 2: from 36 to 60,000 bytes, and the length field is the length
 unfoldable pub length_fits : List ℕ → Bool
@@ -196,18 +227,18 @@ bad_label labels i = not (label_fits (get_or labels i no_label) && rises labelle
 -- refusals 5 to 10 and 32, of the decoded records
 unfoldable pub book_verdict : Book → Verdict
 book_verdict b =
-    and_then (blame 5 (bad_cell b.cells) (length b.cells))
-    (and_then (blame 6 (bad_region b.regions) (length b.regions))
-    (and_then (blame 7 (bad_right b) (length b.rights))
-    (and_then (blame 8 (bad_node b) (length b.nodes))
-    (and_then (blame 9 (bad_program b) (length b.programs))
-    (and_then (blame 10 (bad_trigger b) (length b.triggers))
-    (blame 32 (bad_label b.labels) (length b.labels)))))))
+    and_then (blame reasons.Cell (bad_cell b.cells) (length b.cells))
+    (and_then (blame reasons.Region (bad_region b.regions) (length b.regions))
+    (and_then (blame reasons.Right (bad_right b) (length b.rights))
+    (and_then (blame reasons.Node (bad_node b) (length b.nodes))
+    (and_then (blame reasons.Program (bad_program b) (length b.programs))
+    (and_then (blame reasons.Trigger (bad_trigger b) (length b.triggers))
+    (blame reasons.Label (bad_label b.labels) (length b.labels)))))))
 
 -- refusals 2 to 10 and 32 of a file
 unfoldable pub verdict : List ℕ → Verdict
 verdict s =
-    and_then (need 2 (length_fits s))
-    (and_then (need 3 (mark_fits s))
-    (and_then (need 4 (sections_fit s))
+    and_then (need reasons.Length (length_fits s))
+    (and_then (need reasons.Mark (mark_fits s))
+    (and_then (need reasons.Sections (sections_fit s))
     (book_verdict (decode s))))

@@ -4,7 +4,7 @@
 ghost use Rattle.std.specs.Prelude.{◌≡◌, ◌+◌, ◌≤◌, ◌<◌, length};
 ghost use Rattle.book.specs.Records.{place_of, region_of, cells_format, regions_format};
 ghost use Rattle.book.specs.Layout.{distance, section, label_section};
-ghost use Rattle.book.specs.Refusals.{Laid};
+ghost use Rattle.book.specs.Refusals.{number_of, need, refused_at, Laid};
 
 // A section of the file: the first byte, and the number of records.
 #[derive(Clone, Copy)]
@@ -26,11 +26,57 @@ pub struct Row {
     pub k: u8,
 }
 
-// What the checks of a file find: nothing wrong, or the paper's refusal number and the first bad record's index.
-#[derive(Clone, Copy)]
-pub enum Verdict {
-    Accepted,
-    Refused(u32, usize),
+// Why a file or a call is refused. The paper's number of each reason is its discriminant.
+#[derive(Clone, Copy, PartialEq, Eq, Debug)]
+pub enum Reason {
+    Lent = 1,
+    Length = 2,
+    Mark = 3,
+    Sections = 4,
+    Cell = 5,
+    Region = 6,
+    Right = 7,
+    Node = 8,
+    Program = 9,
+    Trigger = 10,
+    Label = 32,
+}
+
+impl Reason {
+    // The paper's number.
+    pub fn number(self) -> u32
+        ensures { result ≡ number_of self }
+    {
+        self as u32
+    }
+}
+
+// A refusal: why, and the index of the first bad record, 0 where it is about no record.
+#[derive(Clone, Copy, PartialEq, Eq, Debug)]
+pub struct Refusal {
+    pub reason: Reason,
+    pub index: usize,
+}
+
+// Refuses unless the test holds.
+#[tactic(auto, unfolding(crate::specs::Refusals::need))]
+pub fn need(reason: Reason, test: bool) -> Result<(), Refusal>
+    ensures { result ≡ need reason test }
+{
+    if test {
+        return Ok(());
+    }
+    Err(Refusal { reason, index: 0 })
+}
+
+// Refuses for the first bad record of a section, where one was found.
+pub fn blame(reason: Reason, found: Option<usize>) -> Result<(), Refusal>
+    ensures { result ≡ refused_at reason found }
+{
+    match found {
+        Some(index) => Err(Refusal { reason, index }),
+        None => Ok(()),
+    }
 }
 
 // Section `i`, as the trailer gives it.

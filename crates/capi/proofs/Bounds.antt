@@ -10,6 +10,7 @@ use lib.Dec.{eqb}
 use lib.IntN.{ℤ}
 use lib.ListN.{length, get_or, length-append}
 use borrow.Author.Tests.{leb-true}
+use Rattle.std.specs.Prelude.{Option, Some, None}
 use Rattle.book.specs.Records.{Book, NodeRecord}
 use Rattle.book.specs.Kinds.{between}
 use Rattle.book.specs.Refusals.{node_at, no_program, is_zero}
@@ -17,8 +18,6 @@ use Rattle.monitor.specs.Labelled.{Label, Lab, lift2}
 use Rattle.monitor.specs.Run.{Cell, Rights, State, Rec, Halt, Out, done, stop, M, after, next, ◌>>=◌, ret, look, each, when, Test, guard, need, pay, set_var, set_cell, tell, restore, own, with_vars, taken_back, undoing}
 use Rattle.monitor.specs.Syntax.{Exp, const, var, add, minus, equal, less, query, Cmd, skip, assign, seq, branch, while, put, clear, out, grant, revoke, raise, exp_of, cmd_of}
 use Rattle.monitor.specs.Rules.{Key, ranged, found, expr, Mode, Env, choose, posting, trigger_run, fire, write_cell, command, eval, exec, program, run}
-use Rattle.monitor.specs.declared.Amount.{Amount}
-use Rattle.monitor.specs.declared.Amount.TheVariants.{Exact, Nothing}
 use Rattle.capi.proofs.Fields.{Fields, Named}
 
 -- a run from a state whose trace has room for this many records
@@ -151,10 +150,10 @@ keeps_ranged : (i : ℕ) (x : Lab ℤ) → i < 1024 → Keeps (ranged i x)
 unfolding ranged
 keeps_ranged i x l = keeps_bind (keeps_need _ 22 i l) λ _. keeps_ret x
 
-keeps_found : (i : ℕ) (label : Label) (x : Amount) → i < 1024 → Keeps (found i label x)
+keeps_found : (i : ℕ) (label : Label) (x : Option ℤ) → i < 1024 → Keeps (found i label x)
 unfolding found
-keeps_found i label (Exact z) l = keeps_ranged i _ l
-keeps_found i label Nothing l = λ s. stands l
+keeps_found i label (Some z) l = keeps_ranged i _ l
+keeps_found i label None l = λ s. stands l
 
 module _ (ev : ℕ → M (Lab ℤ)) (k : (a : ℕ) → a < 1024 → Keeps (ev a)) where
   keeps_two : (i a c : ℕ) (f : ℤ → ℤ → ℤ) → i < 1024 → a < 1024 → c < 1024 → Keeps (ev a >>= λ x. ev c >>= λ y. ranged i (lift2 f x y))

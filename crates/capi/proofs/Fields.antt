@@ -12,7 +12,7 @@ use Rattle.book.specs.Records.{Book, NodeRecord, TriggerRecord}
 use Rattle.book.specs.Kinds.{expression, command, variable, table, user, region, right, no_kind, between, sort_of, fields_of}
 use Rattle.book.specs.Layout.{count, decode}
 use Rattle.book.specs.Refusals.{node_at, sorted, no_node, field_fits, node_fits, is_command, no_program, program_fits, bad_program, no_trigger, trigger_fits, bad_trigger, verdict}
-use Rattle.book.specs.declared.Verdict.TheVariants.{Accepted}
+use Rattle.std.specs.Prelude.{Ok}
 use Rattle.book.proofs.Accepted.{accepted, placed}
 use Rattle.book.proofs.Chains.{both}
 use Rattle.book.proofs.Decoded.{count_regions, count_nodes, count_programs, count_triggers}
@@ -68,7 +68,7 @@ low_command : (b : Book) (i : ℕ) → length b.nodes ≤ 1024 → is_command b 
 unfolding is_command
 low_command b i few e = omega (arith, ltb-true i (length b.nodes) (both (ltb i (length b.nodes)) _ e).0)
 
-module _ (s : List ℕ) (v : verdict s ≡ Accepted) where
+module _ (s : List ℕ) (v : verdict s ≡ Ok tt) where
   few_nodes : length (decode s).nodes ≤ 1024
   few_nodes = omega (arith, count_nodes s, (placed s v).few_nodes)
 

@@ -2,15 +2,14 @@
 use mathlib.Core.Path.{◌≡◌, refl, ap}
 use mathlib.Core.List.{List}
 use mathlib.Core.Bool.{true}
-use mathlib.Core.Option.{some}
+use Rattle.std.specs.Prelude.{Some}
 use Prim.Native.Nat.{ℕ, ◌/◌, ◌≤◌, ◌<◌}
 use native.Mathlib.Omega.{arith}
 use lib.Dec.{eqb, leb, lit<, lit≤}
 use lib.ListN.{length}
 use borrow.Author.Tests.{leb-true}
 use Rattle.book.specs.Layout.{decode}
-use Rattle.book.specs.Refusals.{verdict_values, need, verdict}
-use Rattle.book.specs.declared.Verdict.{Verdict}
+use Rattle.book.specs.Refusals.{verdict_values, need, verdict, Verdict}
 use Rattle.book.proofs.Chains.{both}
 use Rattle.book.proofs.Verdicts.{accepts_both, need_accepts}
 use Rattle.monitor.specs.Run.{Out}
@@ -20,7 +19,6 @@ use Rattle.monitor.specs.Explain.{ExplainResult}
 use Rattle.monitor.specs.Explain as tool
 use Rattle.monitor.specs.declared.Answer.{Answer}
 use Rattle.monitor.specs.declared.Values.{Values}
-use Rattle.counting.specs.Named.{named}
 use Rattle.entry.specs.Explain.{Explains}
 use Rattle.entry.specs.declared.Explained.{Explained}
 use Rattle.entry.proofs.Reasons.{true_reason}
@@ -28,7 +26,8 @@ use Rattle.capi.specs.Calls.{ran, run_numbers, run_call, place_number, explain_n
 use Rattle.capi.proofs.Indexes.{Low, low_need, low_then, low_verdict}
 use Rattle.capi.proofs.Fields as fields
 use Rattle.capi.proofs.Bounds.{Within, ends, halts, keeps_run}
-use Rattle.book.specs.declared.Verdict.TheVariants as verdicts
+use Rattle.std.specs.Prelude.{Ok, Err}
+use Rattle.book.specs.declared.Reason.TheVariants as reasons
 
 -- an index or a node, and the bytes of a whole trace
 pub record Small (v : Values) : Type 0 where
@@ -44,10 +43,10 @@ small_result budget m l (halts h n) = record { at = n; bytes = omega arith }
 module _ (file : List ℕ) (budget : ℕ) (m : Memory) where
   small : (v : Verdict) → call_verdict file budget m ≡ v → Low v → Small (values (answered true file budget m v).answer)
   unfolding call_verdict answered run_book start_state values verdict_values
-  small (verdicts.Refused number index) e l = record { at = l; bytes = lit≤ tt }
-  small verdicts.Accepted e l =
-      let passed = accepts_both (need 1 _) (verdict file) e in
-      let amounts = both (eqb (length m.amounts) 512) _ (need_accepts 1 _ passed.0) in
+  small (Err refusal) e l = record { at = l; bytes = lit≤ tt }
+  small (Ok _) e l =
+      let passed = accepts_both (need reasons.Lent _) (verdict file) e in
+      let amounts = both (eqb (length m.amounts) 512) _ (need_accepts reasons.Lent _ passed.0) in
       let presence = both (eqb (length m.presence) 8) _ amounts.1 in
       let labels = both (eqb (length m.labels) 4096) _ presence.1 in
       let trace = both (leb (length m.trace) 65536) _ labels.1 in
@@ -56,7 +55,7 @@ module _ (file : List ℕ) (budget : ℕ) (m : Memory) where
 
   call_small : Small (values (call true file budget m).answer)
   unfolding call call_verdict
-  call_small = small (call_verdict file budget m) refl (low_then _ _ (low_need 1 _) λ _. low_verdict file)
+  call_small = small (call_verdict file budget m) refl (low_then _ _ (low_need reasons.Lent _) λ _. low_verdict file)
 
   module _ (a : Answer) (after : Memory) (e : record { answer = a; memory = after } ≡ call true file budget m) (v : Values) (q : v ≡ values a) where
     pub run_told : record { answer = record { number = v.number; at = v.at; cost = v.cost; bytes = v.bytes }; memory = after } ≡ run_call file budget m
@@ -70,7 +69,7 @@ module _ (file : List ℕ) (budget : ℕ) (m : Memory) where
 
   -- the tool that names the cell
   module _ (r : Explained) (after : Memory) (e : Explains file budget m r after) (v : Values) (q : v ≡ values r.answer) where
-    pub explain_told : {place : ℕ} → place ≡ place_number (named r.place)
+    pub explain_told : {place : ℕ} → place ≡ place_number r.place
         → record { answer = record { number = v.number; at = v.at; cost = v.cost; bytes = v.bytes; place = place; count = r.count }; memory = after } ≡ explain_call file budget m
     unfolding explain_call explain_numbers
     explain_told p = rw (q, p) (ap explain_numbers e)
@@ -79,5 +78,5 @@ module _ (file : List ℕ) (budget : ℕ) (m : Memory) where
     unfolding tool.explain_call
     explain_small = run_small r.answer after (ap (λ (x : ExplainResult). x.result) e) v q
 
-    pub explain_place : (p : ℕ) → named r.place ≡ some p → p < 512
+    pub explain_place : (p : ℕ) → r.place ≡ Some p → p < 512
     explain_place p n = ((true_reason file budget m after r e).reason p n).place

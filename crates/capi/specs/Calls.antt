@@ -1,8 +1,6 @@
 -- The calls as C sees them: the numbers of each answer, and lent memory as the call leaves it.
-use Rattle.std.specs.Prelude.{List, true, ℕ, ℤ}
-use Rattle.std.proofs.Math.Option.{Option, none, some}
-use Rattle.book.specs.Refusals.{verdict_values}
-use Rattle.book.specs.declared.Verdict.{Verdict}
+use Rattle.std.specs.Prelude.{List, true, ℕ, ℤ, Option, Some, None}
+use Rattle.book.specs.Refusals.{verdict_values, Verdict}
 use Rattle.monitor.specs.Call.{Memory, Result, values, call}
 use Rattle.monitor.specs.Explain.{ExplainResult}
 use Rattle.monitor.specs.Explain as tool
@@ -13,7 +11,7 @@ use Rattle.capi.specs.declared.RanExplained.{RanExplained}
 use Rattle.capi.specs.declared.Answered.{Answered}
 use Rattle.loader.specs.Load as loader
 use Rattle.writer.specs.Write as writer
-use Rattle.writer.specs.declared.Written as answers
+use Rattle.writer.specs.Write.{Written}
 
 -- ---- running
 
@@ -37,8 +35,8 @@ run_call file budget m = run_numbers (call true file budget m)
 
 -- 512 where no place is named: places are 0 to 511
 unfoldable pub place_number : Option ℕ → ℕ
-place_number none = 512
-place_number (some p) = p
+place_number None = 512
+place_number (Some p) = p
 
 pub record ExplainCall : Type 0 where
   pub answer : RanExplained
@@ -84,7 +82,7 @@ load_call file amounts presence labels = load_numbers (loader.load_call file amo
 
 -- ---- writing
 
-unfoldable pub written : answers.Written → Answered
+unfoldable pub written : Written → Answered
 written w = record { number = (writer.written_values w).number; at = (writer.written_values w).index; bytes = (writer.written_values w).bytes }
 
 pub record WriteCall : Type 0 where

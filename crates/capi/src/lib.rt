@@ -1,12 +1,8 @@
 // The runner, the tool that names the cell, the loader and the writer for C and Rust. include/kagyurma.h declares them.
 #![tactic(auto)]
 
-ghost use Rattle.std.specs.Prelude.{◌≡◌, ℕ, ◌≤◌, ◌<◌};
-ghost use Rattle.std.proofs.Math.Option.{some};
-ghost use Rattle.counting.specs.Named.{named};
+ghost use Rattle.std.specs.Prelude.{◌≡◌, ℕ, ◌≤◌, ◌<◌, Some};
 ghost use Rattle.capi.specs.Calls.{run_call, place_number, explain_call, load_call, write_call};
-
-use counting::LowestMember;
 
 // How a run ended: the paper's number, 0 if it finished; the node of a stop or the index of a refusal; the cost spent and the
 // trace bytes written.
@@ -78,14 +74,11 @@ pub extern "C" fn kagyurma_run(
 }
 
 // The number of a place, or 512 where there is none.
-fn place_number(place: LowestMember) -> u32
-    requires { (p : ℕ) → named place ≡ some p → p < 512 }
-    ensures { result ≡ place_number (named place) }
+fn place_number(place: Option<usize>) -> u32
+    requires { (p : ℕ) → place ≡ Some p → p < 512 }
+    ensures { result ≡ place_number place }
 {
-    match place {
-        LowestMember::Place(p) => p as u32,
-        LowestMember::None => 512,
-    }
+    place.unwrap_or(512) as u32
 }
 
 // Runs the book in a file in lent memory, and names the cell in the way of its stop.
@@ -128,8 +121,8 @@ pub extern "C" fn kagyurma_load(
         ≡ load_call file.now amounts.old presence.old labels.old }
 {
     match loader::load(file, amounts, presence, labels) {
-        book::Verdict::Accepted => told(0, 0, 0),
-        book::Verdict::Refused(number, index) => told(number, index, 0),
+        Ok(()) => told(0, 0, 0),
+        Err(refusal) => told(refusal.reason.number(), refusal.index, 0),
     }
 }
 
@@ -145,7 +138,7 @@ pub extern "C" fn kagyurma_write(
     ensures { record { answer = result; out = out.new } ≡ write_call file.now amounts.now presence.now labels.now out.old }
 {
     match writer::write(file, amounts, presence, labels, out) {
-        writer::Written::Refused(number, index) => told(number, index, 0),
-        writer::Written::Wrote(bytes) => told(0, 0, bytes),
+        Ok(bytes) => told(0, 0, bytes),
+        Err(refused) => told(refused.reason.number(), refused.index, 0),
     }
 }

@@ -27,14 +27,13 @@ fn amount_of(number: u32, place: usize) -> i32
     0 - (number as i32)
 }
 
-// Draws amounts; answers the last number drawn.
+// Draws amounts; answers the last number drawn. The three that draw differ in how many numbers an element takes and in what it makes of them, so
+// that one function would take that as an argument and be no shorter.
 pub fn draw_amounts(amounts: &mut [i32], seed: u32) -> u32 {
     let mut last = seed;
-    let mut at: usize = 0;
-    while at < amounts.len() {
+    for (place, amount) in amounts.iter_mut().enumerate() {
         last = drawn(last);
-        amounts[at] = amount_of(last, at);
-        at += 1;
+        *amount = amount_of(last, place);
     }
     last
 }
@@ -42,80 +41,60 @@ pub fn draw_amounts(amounts: &mut [i32], seed: u32) -> u32 {
 // Draws words of two numbers each; answers the last number drawn.
 pub fn draw_words(words: &mut [u64], seed: u32) -> u32 {
     let mut last = seed;
-    let mut at: usize = 0;
-    while at < words.len() {
+    for word in words {
         let high = drawn(last);
         last = drawn(high);
-        words[at] = high as u64 * 8589934592 + last as u64 * 2;
-        at += 1;
+        *word = high as u64 * 8589934592 + last as u64 * 2;
     }
     last
 }
 
-// Makes a label empty.
-fn clear_label(labels: &mut [u64], place: usize)
-    requires { 8 * place + 8 ≤ length labels.old }
+// Sets one place in a label.
+fn join_place(label: &mut [u64; 8], member: usize)
+    requires { member < 512 }
 {
-    let mut word: usize = 0;
-    while word < 8 {
-        labels[8 * place + word] = 0;
-        word += 1;
-    }
+    label[member / 64] |= 1u64 << (member % 64);
 }
 
-// Sets one place in the label of another.
-fn join_place(labels: &mut [u64], place: usize, member: usize)
-    requires { (8 * place + 8 ≤ length labels.old) × (member < 512) }
-{
-    let at = 8 * place + member / 64;
-    labels[at] = (1u64 << (member % 64)) | labels[at];
-}
-
-// Draws what becomes of a label; answers the last number drawn. Half of them stay; others become empty, their own place alone, or have a
-// place more.
-fn draw_label(labels: &mut [u64], place: usize, seed: u32) -> u32
-    requires { 8 * place + 8 ≤ length labels.old }
-{
+// Draws what becomes of the label of a place; answers the last number drawn. Half of them stay; others become empty, their own place alone,
+// or have a place more.
+fn draw_label(label: &mut [u64; 8], place: usize, seed: u32) -> u32 {
     let last = drawn(seed);
     let choice = last / 65536 % 8;
     if choice < 4 {
         return last;
     }
     if choice < 6 {
-        clear_label(labels, place);
+        label.fill(0);
         return last;
     }
     if choice == 7 {
         let more = drawn(last);
-        join_place(labels, place, (more / 65536 % 512) as usize);
+        join_place(label, (more / 65536 % 512) as usize);
         return more;
     }
     if place < 512 {
-        clear_label(labels, place);
-        join_place(labels, place, place);
+        label.fill(0);
+        join_place(label, place);
     }
     last
 }
 
 // Draws what becomes of each label.
 pub fn draw_labels(labels: &mut [u64], seed: u32) {
-    let places = labels.len() / 8;
+    let (whole, _) = labels.as_chunks_mut::<8>();
     let mut last = seed;
-    let mut place: usize = 0;
-    while place < places {
-        last = draw_label(labels, place, last);
-        place += 1;
+    for (place, label) in whole.iter_mut().enumerate() {
+        last = draw_label(label, place, last);
     }
 }
 
 // Draws bytes, of one number each, from its middle.
 pub fn draw_bytes(bytes: &mut [u8], seed: u32) {
     let mut last = seed;
-    let mut at: usize = 0;
-    while at < bytes.len() {
+    for byte in bytes {
         last = drawn(last);
-        bytes[at] = (last / 65536 % 256) as u8;
-        at += 1;
+        *byte = (last / 65536 % 256) as u8;
     }
 }
 
@@ -133,35 +112,21 @@ fn mixed_word(digest: u32, word: u64) -> u32 {
 
 // The digest of a sequence and more words.
 pub fn mixed_words(digest: u32, words: &[u64]) -> u32 {
-    let mut sum = digest;
-    let mut at: usize = 0;
-    while at < words.len() {
-        sum = mixed_word(sum, words[at]);
-        at += 1;
-    }
-    sum
+    words
+        .iter()
+        .fold(digest, |sum, word| mixed_word(sum, *word))
 }
 
 // The digest of amounts, by their bits.
 fn digest_of_amounts(amounts: &[i32]) -> u32 {
-    let mut sum: u32 = 1;
-    let mut at: usize = 0;
-    while at < amounts.len() {
-        sum = mixed(sum, numbers::bits_of(amounts[at]));
-        at += 1;
-    }
-    sum
+    amounts
+        .iter()
+        .fold(1, |sum, amount| mixed(sum, numbers::bits_of(*amount)))
 }
 
 // The digest of bytes.
 fn digest_of_bytes(bytes: &[u8]) -> u32 {
-    let mut sum: u32 = 1;
-    let mut at: usize = 0;
-    while at < bytes.len() {
-        sum = mixed(sum, bytes[at] as u32);
-        at += 1;
-    }
-    sum
+    bytes.iter().fold(1, |sum, byte| mixed(sum, *byte as u32))
 }
 
 // Prints a number and a space.

@@ -2,49 +2,45 @@
 // if it accepted); digests of amounts, presence, labels and rights; the writer's number and index (0 and the length if it
 // wrote); the digest of the output.
 
-// The digest of a sequence and a set.
-fn mixed_set(digest: u32, set: [u64; 8]) -> u32 {
-    case_lines::mixed_words(digest, &set)
-}
+use machine::{Right, Script};
 
 // The digest of a sequence and the sets of all users.
 fn mixed_sets(digest: u32, sets: [[u64; 8]; 8]) -> u32 {
-    let mut sum = digest;
-    let mut user: usize = 0;
-    while user < 8 {
-        sum = mixed_set(sum, sets[user]);
-        user += 1;
-    }
-    sum
+    sets.iter()
+        .fold(digest, |sum, set| case_lines::mixed_words(sum, set))
 }
 
 // The digest of a book's rights: the public set, the read sets of all users, their write sets; 0 of a refused file.
 fn digest_of_rights(file: &[u8]) -> u32 {
     match reader::inspect(file) {
-        book::Verdict::Accepted => {
-            let mut code = [0u8; machine::SCRIPT_BYTES];
-            start::copy_script(file, &mut code);
-            let public = rights::public_set(&code);
-            let read = rights::right_sets(&code, 1);
-            let write = rights::right_sets(&code, 2);
-            mixed_sets(mixed_sets(mixed_set(1, public), read), write)
+        Ok(()) => {
+            let mut bytes = [0u8; machine::SCRIPT_BYTES];
+            start::copy_script(file, &mut bytes);
+            let script = Script { bytes: &bytes };
+            let public = rights::public_set(script);
+            let read = rights::right_sets(script, Right::Read);
+            let write = rights::right_sets(script, Right::Write);
+            mixed_sets(mixed_sets(case_lines::mixed_words(1, &public), read), write)
         }
-        book::Verdict::Refused(_, _) => 0,
+        Err(_) => 0,
     }
+}
+
+// Prints the number and the index of a refusal.
+fn print_refusal(refusal: book::Refusal) {
+    case_lines::print(refusal.reason.number() as usize);
+    case_lines::print(refusal.index);
 }
 
 // Loads the file; prints the answer and the digests of the lent memory and the rights.
 fn load(file: &[u8], amounts: &mut [i32], presence: &mut [u64], labels: &mut [u64]) {
     let mut rights: u32 = 0;
     match loader::load(file, amounts, presence, labels) {
-        book::Verdict::Accepted => {
+        Ok(()) => {
             io::write_all(1, b"0 0 ");
             rights = digest_of_rights(file);
         }
-        book::Verdict::Refused(number, index) => {
-            case_lines::print(number as usize);
-            case_lines::print(index);
-        }
+        Err(refusal) => print_refusal(refusal),
     }
     case_lines::print_cells(amounts, presence, labels);
     case_lines::print(rights as usize);
@@ -53,14 +49,11 @@ fn load(file: &[u8], amounts: &mut [i32], presence: &mut [u64], labels: &mut [u6
 // Writes the file with these cells and labels; prints the answer and the digest of the output.
 fn write(file: &[u8], amounts: &[i32], presence: &[u64], labels: &[u64], out: &mut [u8]) {
     match writer::write(file, amounts, presence, labels, out) {
-        writer::Written::Wrote(length) => {
+        Ok(length) => {
             io::write_all(1, b"0 ");
             case_lines::print(length);
         }
-        writer::Written::Refused(number, index) => {
-            case_lines::print(number as usize);
-            case_lines::print(index);
-        }
+        Err(refusal) => print_refusal(refusal),
     }
     case_lines::print_last(out);
 }
@@ -81,39 +74,12 @@ fn draw(task: usize, amounts: &mut [i32], presence: &mut [u64], labels: &mut [u6
     }
 }
 
-// Makes every amount this one.
-fn fill_amounts(amounts: &mut [i32], amount: i32) {
-    let mut at: usize = 0;
-    while at < amounts.len() {
-        amounts[at] = amount;
-        at += 1;
-    }
-}
-
-// Makes every word this one.
-fn fill_words(words: &mut [u64], word: u64) {
-    let mut at: usize = 0;
-    while at < words.len() {
-        words[at] = word;
-        at += 1;
-    }
-}
-
-// Makes every byte this one.
-fn fill_bytes(bytes: &mut [u8], byte: u8) {
-    let mut at: usize = 0;
-    while at < bytes.len() {
-        bytes[at] = byte;
-        at += 1;
-    }
-}
-
 // Fills all that is lent, so that what is left alone shows.
 fn fill(amounts: &mut [i32], presence: &mut [u64], labels: &mut [u64], out: &mut [u8]) {
-    fill_amounts(amounts, 7);
-    fill_words(presence, 5);
-    fill_words(labels, 3);
-    fill_bytes(out, 165);
+    amounts.fill(7);
+    presence.fill(5);
+    labels.fill(3);
+    out.fill(165);
 }
 
 // Does a case and prints its line.

@@ -118,11 +118,9 @@ fn step() -> bool {
 
 // Does the cases one after another, up to a million.
 fn main() {
-    let mut turns: usize = 0;
-    while turns < 1000000 {
+    for _ in 0..1000000 {
         if !step() {
             return;
         }
-        turns += 1;
     }
 }

@@ -1,7 +1,6 @@
 // A case for the runner, and for the tool that names the cell. All that is lent is drawn from the seed, so that what is left alone shows. Its
 // line has both calls, each in memory drawn anew: the answer's number, node or index, cost and trace bytes; of the tool also the place, 512
 // where there is none, and the count; digests of amounts, presence, labels and trace.
-use counting::LowestMember;
 
 // Draws all that is lent.
 fn draw(
@@ -27,12 +26,8 @@ fn print_answer(answer: monitor::Answer) {
 }
 
 // Prints the place and the count of an explanation.
-fn print_reason(place: LowestMember, count: u32) {
-    let number = match place {
-        LowestMember::Place(number) => number,
-        LowestMember::None => 512,
-    };
-    case_lines::print(number);
+fn print_reason(place: Option<usize>, count: u32) {
+    case_lines::print(place.unwrap_or(512));
     case_lines::print(count as usize);
 }
 

@@ -6,24 +6,21 @@ use mathlib.Core.Logic.{◌↔◌}
 use Prim.Native.Nat.{ℕ}
 use lib.ListN.{take}
 use Rattle.book.specs.Layout.{decode}
-use Rattle.book.specs.Refusals.{verdict}
-use Rattle.book.specs.declared.Verdict.{Verdict}
-use Rattle.book.specs.declared.Verdict.TheVariants as verdicts
+use Rattle.book.specs.Refusals.{verdict, Verdict}
+use Rattle.std.specs.Prelude.{Ok, Err}
 use Rattle.monitor.specs.Call.{Memory, call_verdict, answered, call}
 use Rattle.monitor.specs.declared.Answer.{Answer}
 use Rattle.entry.specs.Entry.{Runs}
-use Rattle.writer.specs.Write.{WriteCall}
+use Rattle.writer.specs.Write.{WriteCall, Written}
 use Rattle.writer.specs.Claims.{WrittenBack, SameBook}
-use Rattle.writer.specs.declared.Written.{Written}
-use Rattle.writer.specs.declared.Written.TheVariants.{Refused, Wrote}
 use Rattle.chains.specs.Claims.{RunsAsBefore}
 
 module _ (new file : List ℕ) (v : verdict new ≡ verdict file) (e : decode new ≡ decode file) where
   -- what is answered depends on the records only
   answered_alike : (budget : ℕ) (m : Memory) (w : Verdict) → answered true new budget m w ≡ answered true file budget m w
   unfolding answered
-  answered_alike budget m (verdicts.Refused number index) = refl
-  answered_alike budget m verdicts.Accepted = rw e
+  answered_alike budget m (Err refusal) = refl
+  answered_alike budget m (Ok _) = rw e
 
   calls_alike : (budget : ℕ) (m : Memory) → call true new budget m ≡ call true file budget m
   unfolding call call_verdict
@@ -35,10 +32,10 @@ module _ (new file : List ℕ) (v : verdict new ≡ verdict file) (e : decode ne
 -- ---- written back
 
 length_of : Written → ℕ
-length_of (Refused number index) = 0
-length_of (Wrote n) = n
+length_of (Err refusal) = 0
+length_of (Ok n) = n
 
-back_alike : (file : List ℕ) → verdict file ≡ verdicts.Accepted → (w : WriteCall) → WrittenBack file w → (n : ℕ) → w.answer ≡ Wrote n
+back_alike : (file : List ℕ) → verdict file ≡ Ok tt → (w : WriteCall) → WrittenBack file w → (n : ℕ) → w.answer ≡ Ok n
     → (budget : ℕ) (before after : Memory) (r : Answer) → Runs (take n w.out) budget before r after ↔ Runs file budget before r after
 unfolding length_of
 back_alike file v w b n e =

@@ -7,9 +7,8 @@ use Prim.Native.Nat.{ℕ}
 use lib.ListN.{take}
 use Rattle.places.specs.Sets.{Within}
 use Rattle.places.proofs.Sets.{within_refl, within_trans, within_union_left, within_union_right}
-use Rattle.book.specs.Refusals.{need, verdict}
-use Rattle.book.specs.declared.Verdict.{Verdict}
-use Rattle.book.specs.declared.Verdict.TheVariants as verdicts
+use Rattle.book.specs.Refusals.{need, verdict, Verdict}
+use Rattle.std.specs.Prelude.{Ok, Err}
 use Rattle.book.proofs.Verdicts.{accepts_both}
 use Rattle.monitor.specs.Labelled.{Label}
 use Rattle.monitor.specs.Call.{Memory, Result, values, cut, trace_records, call_verdict, answered, call}
@@ -20,29 +19,29 @@ use Rattle.claims.specs.Claims.{LearnsNothing}
 use Rattle.entry.specs.Entry.{result}
 use Rattle.entry.proofs.Claims.{demand3_within}
 use Rattle.writer.specs.Claims.{ReadsBack}
-use Rattle.writer.specs.declared.Written.{Written}
-use Rattle.writer.specs.declared.Written.TheVariants.{Wrote}
+use Rattle.writer.specs.Write.{Written}
 use Rattle.chains.specs.Chains.{Day, day_result, Writing, Days, last_day, breaks_off, not_written, goes_on, Chain, last_answer, no_stop, last_memory, days_trace, day_reach, days_reach, SameDays, no_day, day_more}
 use Rattle.chains.specs.Claims.{LearnsNothingOverDays, Demand3OverDays}
 use Rattle.chains.proofs.Written.{next_differ}
-use Rattle.chains.proofs.Told.{Side, Told, first_silent, second_silent, before, both_end, first_ends, second_ends, both_go_on}
+use Rattle.chains.proofs.Told.{Side, Told, first_silent, second_silent, both_end, first_ends, second_ends, both_go_on}
+use Rattle.book.specs.declared.Reason.TheVariants as reasons
 
 -- ---- one day of each
 
 -- a book whose run is not refused is accepted
-book_accepted : {book : List ℕ} (d : Day book) → accepted d.answer ≡ true → verdict book ≡ verdicts.Accepted
+book_accepted : {book : List ℕ} (d : Day book) → accepted d.answer ≡ true → verdict book ≡ Ok tt
 unfolding call answered accepted call_verdict
 book_accepted {book} d a =
-    (accepts_both (need 1 _) (verdict book) (go (call_verdict book d.budget d.before) (sym (ap (λ (x : Result). accepted x.answer) d.runs) ∙ a))).1
+    (accepts_both (need reasons.Lent _) (verdict book) (go (call_verdict book d.budget d.before) (sym (ap (λ (x : Result). accepted x.answer) d.runs) ∙ a))).1
   where
-    go : (v : Verdict) → accepted (answered true book d.budget d.before v).answer ≡ true → v ≡ verdicts.Accepted
-    go verdicts.Accepted h = refl
-    go (verdicts.Refused number index) h = absurd (false≢true h)
+    go : (v : Verdict) → accepted (answered true book d.budget d.before v).answer ≡ true → v ≡ Ok tt
+    go (Ok _) h = refl
+    go (Err refusal) h = absurd (false≢true h)
 
 -- one that is refused shows nothing and does not finish
 silent : (g : Group) (r : Answer) (m : Memory) → accepted r ≡ false → (group_trace g (result r m) ≡ []) × (finished r ≡ false)
 unfolding accepted finished group_trace visible_in trace_records values cut
-silent g (Refused number index) m h = (refl, refl)
+silent g (Refused refusal) m h = (refl, refl)
 silent g (Stopped number node cost bytes) m h = absurd (true≢false h)
 silent g (Finished cost bytes) m h = absurd (true≢false h)
 
@@ -54,7 +53,7 @@ told : (g : Group) (R : Label) {book book' : List ℕ} (d : Day book) (d' : Day 
 told g R d d' l = record { begins = l.begins; first_whole = l.first_whole; second_whole = l.second_whole; traces = l.traces; cells = l.cells }
 
 module _ (g : Group) (R : Label) {book book' : List ℕ} (d : Day book) (d' : Day book')
-    (differ : verdict book ≡ verdicts.Accepted → verdict book' ≡ verdicts.Accepted → DifferOutside R book book')
+    (differ : verdict book ≡ Ok tt → verdict book' ≡ Ok tt → DifferOutside R book book')
     (holds : Within (day_reach g d) R) where
   two_days : Told R (day_side g d) (day_side g d')
   unfolding day_reach
@@ -84,7 +83,7 @@ refused_ends w = refl
 
 -- a set that holds the reach of a chain that goes on holds that of its first day, and that of the days after it
 module _ (g : Group) (R : Label) {book file : List ℕ} {later : List (List ℕ)} (d : Day book) (f : finished d.answer ≡ true)
-    (w : Writing file d.after) (n : ℕ) (e : w.answer ≡ Wrote n) (rest : Days (take n w.written) later)
+    (w : Writing file d.after) (n : ℕ) (e : w.answer ≡ Ok n) (rest : Days (take n w.written) later)
     (h : Within (days_reach g (goes_on d f w n e rest)) R) where
   first_holds : Within (day_reach g d) R
   unfolding days_reach
@@ -96,29 +95,29 @@ module _ (g : Group) (R : Label) {book file : List ℕ} {later : List (List ℕ)
 
 module _ (back : ReadsBack) (g : Group) (R : Label) where
   over_days : {book book' : List ℕ} {later later' : List (List ℕ)} (d : Days book later) (d' : Days book' later') → SameDays later later'
-      → (verdict book ≡ verdicts.Accepted → verdict book' ≡ verdicts.Accepted → DifferOutside R book book')
+      → (verdict book ≡ Ok tt → verdict book' ≡ Ok tt → DifferOutside R book book')
       → Within (days_reach g d) R → Told R (side g d) (side g d')
   unfolding last_answer no_stop last_memory days_trace days_reach
   over_days (last_day d) (last_day d') no_day b h = two_days g R d d' b h
   over_days (last_day d) (breaks_off d' e') x b h = elim x [ ]
-  over_days (last_day d) (not_written d' f' w' number' index' e') x b h = elim x [ ]
+  over_days (last_day d) (not_written d' f' w' refusal' e') x b h = elim x [ ]
   over_days (last_day d) (goes_on d' f' w' n' e' rest') x b h = elim x [ ]
   over_days (breaks_off d e) (last_day d') x b h = elim x [ ]
-  over_days (not_written d f w number index e) (last_day d') x b h = elim x [ ]
+  over_days (not_written d f w refusal e) (last_day d') x b h = elim x [ ]
   over_days (goes_on d f w n e rest) (last_day d') x b h = elim x [ ]
   over_days (breaks_off d e) (breaks_off d' e') (day_more s more) b h = both_end (two_days g R d d' b h) e e'
-  over_days (breaks_off d e) (not_written d' f' w' number' index' e') (day_more s more) b h =
+  over_days (breaks_off d e) (not_written d' f' w' refusal' e') (day_more s more) b h =
       both_end (two_days g R d d' b h) e (refused_ends w'.answer)
-  over_days (not_written d f w number index e) (breaks_off d' e') (day_more s more) b h =
+  over_days (not_written d f w refusal e) (breaks_off d' e') (day_more s more) b h =
       both_end (two_days g R d d' b h) (refused_ends w.answer) e'
-  over_days (not_written d f w number index e) (not_written d' f' w' number' index' e') (day_more s more) b h =
+  over_days (not_written d f w refusal e) (not_written d' f' w' refusal' e') (day_more s more) b h =
       both_end (two_days g R d d' b h) (refused_ends w.answer) (refused_ends w'.answer)
   over_days (breaks_off d e) (goes_on d' f' w' n' e' rest') (day_more s more) b h = first_ends (two_days g R d d' b h) (side g rest') e f'
-  over_days (not_written d f w number index e) (goes_on d' f' w' n' e' rest') (day_more s more) b h =
+  over_days (not_written d f w refusal e) (goes_on d' f' w' n' e' rest') (day_more s more) b h =
       first_ends (two_days g R d d' b h) (side g rest') (refused_ends w.answer) f'
   over_days (goes_on d f w n e rest) (breaks_off d' e') (day_more s more) b h =
       second_ends (two_days g R d d' b (first_holds g R d f w n e rest h)) (side g rest) f e'
-  over_days (goes_on d f w n e rest) (not_written d' f' w' number' index' e') (day_more s more) b h =
+  over_days (goes_on d f w n e rest) (not_written d' f' w' refusal' e') (day_more s more) b h =
       second_ends (two_days g R d d' b (first_holds g R d f w n e rest h)) (side g rest) f (refused_ends w'.answer)
   over_days (goes_on d f w n e rest) (goes_on d' f' w' n' e' rest') (day_more s more) b h =
       let t = two_days g R d d' b (first_holds g R d f w n e rest h) in

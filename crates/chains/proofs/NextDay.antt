@@ -15,7 +15,7 @@ use Rattle.book.specs.Records.{Book}
 use Rattle.book.specs.Layout.{decode}
 use Rattle.book.specs.Refusals.{verdict}
 use Rattle.book.specs.Start.{public_set, read_sets}
-use Rattle.book.specs.declared.Verdict.TheVariants as verdicts
+use Rattle.std.specs.Prelude.{Ok}
 use Rattle.book.proofs.Verdicts.{passes, need_passes}
 use Rattle.monitor.specs.Labelled.{Label, Lab, lit}
 use Rattle.monitor.specs.Run.{Cell, Out, sixteen}
@@ -28,9 +28,9 @@ use Rattle.claims.proofs.Views.{end}
 use Rattle.claims.proofs.Sized.{fine_run, fine_end}
 use Rattle.claims.proofs.Demand3.{one_script, left_cells}
 use Rattle.writer.specs.Claims.{ReadsBack}
-use Rattle.writer.specs.declared.Written.TheVariants.{Wrote}
 use Rattle.chains.specs.Chains.{Writing}
 use Rattle.chains.proofs.Written.{kept, is_rewritten, new_scripts, new_starts}
+use Rattle.book.specs.declared.Reason.TheVariants as reasons
 
 -- ---- the reach depends on the script only
 
@@ -72,7 +72,7 @@ lent_fits budget m =
     eqb (length m.amounts) 512 && (eqb (length m.presence) 8 && (eqb (length m.labels) 4096
     && (leb (length m.trace) 65536 && leb budget 1000000)))
 
-module _ (back : ReadsBack) {file : List ℕ} {m : Memory} (w : Writing file m) {n : ℕ} (e : w.answer ≡ Wrote n) where
+module _ (back : ReadsBack) {file : List ℕ} {m : Memory} (w : Writing file m) {n : ℕ} (e : w.answer ≡ Ok n) where
   new_script : script (decode (take n w.written)) ≡ script (decode file)
   new_script = one_script (new_scripts back w e)
 
@@ -104,8 +104,8 @@ module _ (back : ReadsBack) {file : List ℕ} {m : Memory} (w : Writing file m) 
         → call true (take n w.written) budget lent ≡ result_of budget lent (run_next file cells budget (length lent.trace / 8))
     unfolding lent_fits call answered call_verdict
     new_call budget lent f =
-        let v : call_verdict (take n w.written) budget lent ≡ verdicts.Accepted =
-        passes (verdict (take n w.written)) (need_passes 1 f) ∙ (is_rewritten back w e).accepted in
+        let v : call_verdict (take n w.written) budget lent ≡ Ok tt =
+        passes (verdict (take n w.written)) (need_passes reasons.Lent f) ∙ (is_rewritten back w e).accepted in
         ap (answered true (take n w.written) budget lent) v ∙ ap (result_of budget lent) (new_run budget (length lent.trace / 8))
 
     -- the cells that it leaves are those at its run's end

@@ -12,8 +12,9 @@ use lib.Signed.{mag}
 use Rattle.places.specs.Sets.{union}
 use Rattle.book.specs.Records.{Book, SameScripts}
 use Rattle.book.specs.Tables.{cell, may_read, may_write, sum, both, put, out, program, w_regions, constants}
-use Rattle.book.specs.Refusals.{verdict}
-use Rattle.book.specs.declared.Verdict.TheVariants as verdicts
+use Rattle.book.specs.Refusals.{verdict, refusal_of}
+use Rattle.std.specs.Prelude.{Ok}
+use Rattle.book.specs.declared.Reason.TheVariants as reasons
 use Rattle.book.proofs.Verdicts.{passes, need_passes}
 use Rattle.monitor.specs.Labelled.{bottom, Lab}
 use Rattle.monitor.specs.Run.{Cell, held, Out, update}
@@ -31,7 +32,6 @@ use Rattle.claims.proofs.Calls.{call_quick, call_is, left_quick, left_is}
 use Rattle.entry.specs.Entry.{result}
 use Rattle.writer.specs.Write.{write_fits, write_verdict, rewritten, write_answer, write_call}
 use Rattle.writer.specs.Claims.{ReadsBack}
-use Rattle.writer.specs.declared.Written.TheVariants.{Wrote}
 use Rattle.chains.specs.Chains.{Day, Writing, last_day, breaks_off, goes_on, Chain, last_answer, no_stop, last_memory, days_trace, day_reach, days_reach, no_day, day_more}
 use Rattle.chains.specs.Witnesses.{user_1, monday, tuesday_with, tuesday, lent_64, owners_1_3, Story, Compared, NotRun, Stories}
 use Rattle.chains.proofs.Written.{kept}
@@ -92,7 +92,7 @@ record Tuesday (amount root : ℕ) (last : Answer) : Type 0 where
   reaches : union owner_1 (reach user_1 (tuesday root) (tuesday_result amount root)) ≡ owners_1_3
   leaves : (end (tuesday_run amount root)).cells 8 ≡ record { val = held (pos amount); lab = eight 65536 }
   leaves_next : (end (tuesday_run amount root)).cells 9 ≡ record { val = held (pos 2); lab = bottom }
-  right : verdict (tuesday root) ≡ verdicts.Accepted
+  right : verdict (tuesday root) ≡ Ok tt
   bytes : all_bytes (tuesday root) ≡ true
 
 stops_900 : Tuesday 900 9 (Stopped 27 6 17 8)
@@ -154,11 +154,11 @@ module _ (back : ReadsBack) (amount root : ℕ) (last : Answer) (x : Monday amou
       let l = lengths_left (monday amount) 100 lent_64 first_accepted in
       rw (l.amounts_are, l.presence_is, l.labels_are) refl
 
-  wrote : writing.answer ≡ Wrote size
+  wrote : writing.answer ≡ Ok size
   unfolding write_call write_verdict writing
   wrote =
       ap (λ v. write_answer v (rewritten (tuesday root) left.amounts left.presence left.labels))
-      (passes (verdict (tuesday root)) (need_passes 1 fits_out) ∙ y.right)
+      (passes (verdict (tuesday root)) (need_passes reasons.Lent fits_out) ∙ y.right)
 
   abbrev book : List ℕ
   book = take size writing.written
@@ -215,7 +215,7 @@ itself = record { regions = refl; rights = refl; nodes = refl; programs = refl; 
 -- ---- a chain that is refused
 
 -- the answer of Monday's call with one more than the largest budget
-refused_is : call true (monday 900) 1000001 lent_64 ≡ result (Refused 1 0) lent_64
+refused_is : call true (monday 900) 1000001 lent_64 ≡ result (Refused (refusal_of reasons.Lent 0)) lent_64
 unfolding call_quick monday
 refused_is = ap (λ calling. calling (monday 900) 1000001 lent_64) call_is
 
@@ -225,7 +225,7 @@ not_run = record {
   chain = record {
     first = monday 900;
     later = tuesday 9 ∷ [];
-    days = breaks_off (record { budget = 1000001; before = lent_64; answer = Refused 1 0; after = lent_64; runs = sym refused_is }) refl;
+    days = breaks_off (record { budget = 1000001; before = lent_64; answer = Refused (refusal_of reasons.Lent 0); after = lent_64; runs = sym refused_is }) refl;
   };
   first_is = refl;
   later_is = refl;

@@ -9,9 +9,8 @@ use lib.ListN.{get_or, take}
 use Rattle.places.specs.Sets.{has}
 use Rattle.book.specs.Records.{Book, SameScripts}
 use Rattle.book.specs.Layout.{decode}
-use Rattle.book.specs.Refusals.{need, verdict}
-use Rattle.book.specs.declared.Verdict.{Verdict}
-use Rattle.book.specs.declared.Verdict.TheVariants as verdicts
+use Rattle.book.specs.Refusals.{need, verdict, Verdict}
+use Rattle.std.specs.Prelude.{Ok, Err}
 use Rattle.book.proofs.Tabulate.{tabulate_at}
 use Rattle.book.proofs.Verdicts.{accepts_both}
 use Rattle.monitor.specs.Labelled.{Label, Lab}
@@ -20,8 +19,8 @@ use Rattle.monitor.specs.Call.{Memory, cells_of, start_cells}
 use Rattle.claims.specs.TwoBooks.{InsideEither, SameInside, DifferOutside, cells_in}
 use Rattle.writer.specs.Write.{write_fits, write_verdict, rewritten, write_answer, WriteCall, write_call}
 use Rattle.writer.specs.Claims.{present_amounts, Rewritten, ReadsBack}
-use Rattle.writer.specs.declared.Written.TheVariants.{Refused, Wrote}
 use Rattle.chains.specs.Chains.{Writing}
+use Rattle.book.specs.declared.Reason.TheVariants as reasons
 
 -- ---- one book that was written
 
@@ -37,22 +36,22 @@ starts_kept m new w q h =
 
 -- ---- a call that wrote
 
-wrote_accepts : (v : Verdict) (new : List ℕ) {n : ℕ} → write_answer v new ≡ Wrote n → v ≡ verdicts.Accepted
-wrote_accepts verdicts.Accepted new e = refl
-wrote_accepts (verdicts.Refused number index) new e = cc
+wrote_accepts : (v : Verdict) (new : List ℕ) {n : ℕ} → write_answer v new ≡ Ok n → v ≡ Ok tt
+wrote_accepts (Ok _) new e = refl
+wrote_accepts (Err refusal) new e = cc
 
-module _ (reads_back : ReadsBack) {file : List ℕ} {m : Memory} (w : Writing file m) {n : ℕ} (e : w.answer ≡ Wrote n) where
-  called : (write_call file m.amounts m.presence m.labels w.out).answer ≡ Wrote n
+module _ (reads_back : ReadsBack) {file : List ℕ} {m : Memory} (w : Writing file m) {n : ℕ} (e : w.answer ≡ Ok n) where
+  called : (write_call file m.amounts m.presence m.labels w.out).answer ≡ Ok n
   called = sym (ap (λ (x : WriteCall). x.answer) w.writes) ∙ e
 
-  passed : write_verdict file m.amounts m.presence m.labels w.out ≡ verdicts.Accepted
+  passed : write_verdict file m.amounts m.presence m.labels w.out ≡ Ok tt
   unfolding write_call
   passed = wrote_accepts (write_verdict file m.amounts m.presence m.labels w.out) (rewritten file m.amounts m.presence m.labels) called
 
   -- the day's file is accepted
-  pub file_accepted : verdict file ≡ verdicts.Accepted
+  pub file_accepted : verdict file ≡ Ok tt
   unfolding write_verdict
-  file_accepted = (accepts_both (need 1 (write_fits m.amounts m.presence m.labels w.out)) (verdict file) passed).1
+  file_accepted = (accepts_both (need reasons.Lent (write_fits m.amounts m.presence m.labels w.out)) (verdict file) passed).1
 
   pub is_rewritten : Rewritten file m.amounts m.presence m.labels (take n w.written)
   unfolding ReadsBack
@@ -92,8 +91,8 @@ unfolding kept
 kept_same h i = ap kept (h i)
 
 pub next_differ : ReadsBack → {R : Label} {file file' : List ℕ} {m m' : Memory} (w : Writing file m) (w' : Writing file' m') {n n' : ℕ}
-    → w.answer ≡ Wrote n → w'.answer ≡ Wrote n'
-    → (verdict file ≡ verdicts.Accepted → verdict file' ≡ verdicts.Accepted → SameScripts (decode file) (decode file'))
+    → w.answer ≡ Ok n → w'.answer ≡ Ok n'
+    → (verdict file ≡ Ok tt → verdict file' ≡ Ok tt → SameScripts (decode file) (decode file'))
     → SameInside R (cells_in m) (cells_in m')
     → DifferOutside R (take n w.written) (take n' w'.written)
 next_differ back {R} w w' e e' s d =

@@ -1,23 +1,21 @@
 -- Days in a row (02, Change 5): a day, a chain, what it ends with and when it finishes, its trace, its final cells, its reach, and two chains that
 -- are compared. A day is what the entries ensure of their calls; budgets, trace lengths and what lent memory held before each call are free.
-use Rattle.std.specs.Prelude.{◌≡◌, List, [], ◌∷◌, ◌++◌, ◌⊎◌, Bool, true, false, cond, ℕ, take}
+use Rattle.std.specs.Prelude.{◌≡◌, List, [], ◌∷◌, ◌++◌, ◌⊎◌, Bool, true, false, cond, ℕ, take, Ok, Err}
 use Rattle.std.proofs.Common.{inl, inr}
 use Rattle.places.specs.Sets.{Words, union}
 use Rattle.book.specs.Bytes.{Bytes}
 use Rattle.book.specs.Records.{SameScripts}
 use Rattle.book.specs.Layout.{decode}
 use Rattle.book.specs.Refusals.{verdict}
-use Rattle.book.specs.declared.Verdict.TheVariants.{Accepted}
+use Rattle.book.specs.declared.Refusal.{Refusal}
 use Rattle.monitor.specs.Labelled.{Label, bottom, Lab}
 use Rattle.monitor.specs.Run.{Cell}
 use Rattle.monitor.specs.Call.{Memory, Result}
 use Rattle.monitor.specs.declared.Answer.{Answer}
 use Rattle.claims.specs.TwoBooks.{Group, accepted, finished, group_trace, reach, DifferOutside, cells_in}
 use Rattle.entry.specs.Entry.{result, Runs}
-use Rattle.writer.specs.Write.{write_call}
+use Rattle.writer.specs.Write.{write_call, Written}
 use Rattle.writer.specs.Claims.{Amounts}
-use Rattle.writer.specs.declared.Written.{Written}
-use Rattle.writer.specs.declared.Written.TheVariants.{Refused, Wrote}
 
 -- ---- the calls
 
@@ -55,10 +53,10 @@ pub data Days : List ℕ → List (List ℕ) → Type 0 where
   breaks_off : {book file : List ℕ} {later : List (List ℕ)} (d : Day book) → finished d.answer ≡ false → Days book (file ∷ later)
   -- a day that finishes; the next day's book is refused when it is written
   not_written : {book file : List ℕ} {later : List (List ℕ)} (d : Day book) → finished d.answer ≡ true
-      → (w : Writing file d.after) (number index : ℕ) → w.answer ≡ Refused number index → Days book (file ∷ later)
+      → (w : Writing file d.after) (refusal : Refusal) → w.answer ≡ Err refusal → Days book (file ∷ later)
   -- a day that finishes; the next day's book is what was written, n bytes, and the chain goes on with it
   goes_on : {book file : List ℕ} {later : List (List ℕ)} (d : Day book) → finished d.answer ≡ true
-      → (w : Writing file d.after) (n : ℕ) → w.answer ≡ Wrote n → Days (take n w.written) later → Days book (file ∷ later)
+      → (w : Writing file d.after) (n : ℕ) → w.answer ≡ Ok n → Days (take n w.written) later → Days book (file ∷ later)
 
 -- A chain of one or more days: the first day runs its file, `first`.
 pub record Chain : Type 0 where
@@ -72,7 +70,7 @@ pub record Chain : Type 0 where
 unfoldable pub last_answer : {book : List ℕ} {later : List (List ℕ)} → Days book later → Answer ⊎ Written
 last_answer (last_day d) = inl d.answer
 last_answer (breaks_off d h) = inl d.answer
-last_answer (not_written d h w number index e) = inr w.answer
+last_answer (not_written d h w refusal e) = inr w.answer
 last_answer (goes_on d h w n e rest) = last_answer rest
 
 abbrev pub ended_with : Chain → Answer ⊎ Written
@@ -90,7 +88,7 @@ chain_finished c = no_stop (ended_with c)
 unfoldable pub last_memory : {book : List ℕ} {later : List (List ℕ)} → Days book later → Memory
 last_memory (last_day d) = d.after
 last_memory (breaks_off d h) = d.after
-last_memory (not_written d h w number index e) = d.after
+last_memory (not_written d h w refusal e) = d.after
 last_memory (goes_on d h w n e rest) = last_memory rest
 
 abbrev pub final_cells : Chain → ℕ → Lab Cell
@@ -102,7 +100,7 @@ final_cells c = cells_in (last_memory c.days)
 unfoldable pub days_trace : Group → {book : List ℕ} {later : List (List ℕ)} → Days book later → List (List ℕ)
 days_trace g (last_day d) = group_trace g (day_result d)
 days_trace g (breaks_off d h) = group_trace g (day_result d)
-days_trace g (not_written d h w number index e) = group_trace g (day_result d)
+days_trace g (not_written d h w refusal e) = group_trace g (day_result d)
 days_trace g (goes_on d h w n e rest) = group_trace g (day_result d) ++ days_trace g rest
 
 abbrev pub chain_trace : Group → Chain → List (List ℕ)
@@ -118,7 +116,7 @@ day_reach g {book} d = cond (accepted d.answer) (reach g book (day_result d)) bo
 unfoldable pub days_reach : Group → {book : List ℕ} {later : List (List ℕ)} → Days book later → Label
 days_reach g (last_day d) = day_reach g d
 days_reach g (breaks_off d h) = day_reach g d
-days_reach g (not_written d h w number index e) = day_reach g d
+days_reach g (not_written d h w refusal e) = day_reach g d
 days_reach g (goes_on d h w n e rest) = union (day_reach g d) (days_reach g rest)
 
 abbrev pub chain_reach : Group → Chain → Label
@@ -131,11 +129,11 @@ chain_reach g c = days_reach g c.days
 pub data SameDays : List (List ℕ) → List (List ℕ) → Type 0 where
   no_day : SameDays [] []
   day_more : {file file' : List ℕ} {later later' : List (List ℕ)}
-      → (verdict file ≡ Accepted → verdict file' ≡ Accepted → SameScripts (decode file) (decode file'))
+      → (verdict file ≡ Ok tt → verdict file' ≡ Ok tt → SameScripts (decode file) (decode file'))
       → SameDays later later' → SameDays (file ∷ later) (file' ∷ later')
 
 -- Two chains are equally long, with the same records but cells and labels each day, and their first books differ only in cells outside
 -- the reach: by starting label, whatever the versions of the files.
 pub record ChainsDifferOutside (reach : Label) (first second : Chain) : Type 0 where
-  pub books : verdict first.first ≡ Accepted → verdict second.first ≡ Accepted → DifferOutside reach first.first second.first
+  pub books : verdict first.first ≡ Ok tt → verdict second.first ≡ Ok tt → DifferOutside reach first.first second.first
   pub later : SameDays first.later second.later

@@ -1,10 +1,9 @@
 -- Demand 3 over days, and what crossing over to version 2 changes of a run, as statements over what the entries `run` and `write` ensure. Their
 -- proofs are in proofs/.
-use Rattle.std.specs.Prelude.{◌≡◌, List, [], ◌⊎◌, ◌↔◌, true, ℕ, ◌≤◌, ℤ, length, take}
+use Rattle.std.specs.Prelude.{◌≡◌, List, [], ◌⊎◌, ◌↔◌, true, ℕ, ◌≤◌, ℤ, length, take, Ok}
 use Rattle.book.specs.Bytes.{Bytes}
 use Rattle.book.specs.Refusals.{verdict}
 use Rattle.book.specs.Start.{Lengths}
-use Rattle.book.specs.declared.Verdict.TheVariants.{Accepted}
 use Rattle.loader.specs.Load.{Loaded, load_call}
 use Rattle.monitor.specs.Labelled.{Label}
 use Rattle.monitor.specs.Call.{Memory}
@@ -13,7 +12,6 @@ use Rattle.claims.specs.TwoBooks.{Group, accepted, finished, group_trace, Begins
 use Rattle.entry.specs.Entry.{Runs}
 use Rattle.entry.specs.Claims.{Demand3}
 use Rattle.writer.specs.Write.{WriteCall, write_call}
-use Rattle.writer.specs.declared.Written.TheVariants.{Wrote}
 use Rattle.chains.specs.Chains.{Day, day_result, last_day, Chain, chain_finished, final_cells, chain_trace, chain_reach, ChainsDifferOutside}
 
 -- What the group learns from two chains: nothing but where one ended early, and where both finish, nothing.
@@ -53,10 +51,10 @@ pub record OneDay : Type 0 where
 -- and leaves the same memory. So an office that crosses over from version 1 between two days changes no run by it.
 abbrev pub RunsAsBefore : Type 0
 RunsAsBefore =
-    (file : List ℕ) → Bytes file → verdict file ≡ Accepted
+    (file : List ℕ) → Bytes file → verdict file ≡ Ok tt
     → (amounts : List ℤ) (presence labels : List ℕ) → Lengths amounts presence labels
     → (out : List ℕ) → 60000 ≤ length out
     → let m : Loaded = load_call file amounts presence labels in
     let w : WriteCall = write_call file m.amounts m.presence m.labels out in
-    (n : ℕ) → w.answer ≡ Wrote n
+    (n : ℕ) → w.answer ≡ Ok n
     → (budget : ℕ) (before after : Memory) (r : Answer) → Runs (take n w.out) budget before r after ↔ Runs file budget before r after

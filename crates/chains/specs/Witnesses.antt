@@ -15,6 +15,8 @@ use Rattle.monitor.specs.declared.Answer.TheVariants.{Refused, Stopped, Finished
 use Rattle.claims.specs.TwoBooks.{Group}
 use Rattle.claims.specs.Witnesses.{members, file_of}
 use Rattle.chains.specs.Chains.{Chain, ended_with, chain_finished, final_cells, chain_trace, chain_reach, ChainsDifferOutside}
+use Rattle.book.specs.declared.Reason.TheVariants as reasons
+use Rattle.book.specs.Refusals.{refusal_of}
 
 -- user 1 alone, who may read what is owner 1's
 abbrev pub user_1 : Group
@@ -72,7 +74,7 @@ pub record NotRun : Type 0 where
   pub chain : Chain
   pub first_is : chain.first ≡ monday 900
   pub later_is : chain.later ≡ tuesday 9 ∷ []
-  pub ends : ended_with chain ≡ inl (Refused 1 0)
+  pub ends : ended_with chain ≡ inl (Refused (refusal_of reasons.Lent 0))
   pub finishes_not : chain_finished chain ≡ false
   pub trace_is : chain_trace user_1 chain ≡ []
   pub reach_is : chain_reach user_1 chain ≡ bottom

@@ -7,8 +7,8 @@ use lib.IntN.{pos}
 use lib.ListN.{length}
 use Rattle.book.specs.Records.{Book}
 use Rattle.book.specs.Layout.{decode}
-use Rattle.book.specs.declared.Verdict.{Verdict}
-use Rattle.book.specs.declared.Verdict.TheVariants as verdicts
+use Rattle.book.specs.Refusals.{Verdict}
+use Rattle.std.specs.Prelude.{Ok, Err}
 use Rattle.monitor.specs.Labelled.{Lab, lit}
 use Rattle.monitor.specs.Run.{Cell, Out, sixteen}
 use Rattle.monitor.specs.Rules.{monitored, run}
@@ -29,8 +29,8 @@ run_from cells file budget m =
     (record { cells = cells b; vars = sixteen (lit (pos 0)); rights = start_rights b; left = budget; room = length m.trace / 8 })
 
 answered_from : (Book → ℕ → Lab Cell) → List ℕ → ℕ → Memory → Verdict → Result
-answered_from cells file budget m (verdicts.Refused number index) = record { answer = Refused number index; memory = m }
-answered_from cells file budget m verdicts.Accepted = result_of budget m (run_from cells file budget m)
+answered_from cells file budget m (Err refusal) = record { answer = Refused refusal; memory = m }
+answered_from cells file budget m (Ok _) = result_of budget m (run_from cells file budget m)
 
 call_from : (Book → ℕ → Lab Cell) → List ℕ → ℕ → Memory → Result
 call_from cells file budget m = answered_from cells file budget m (call_verdict file budget m)
@@ -46,8 +46,8 @@ call_is = fun_ext λ file. fun_ext λ budget. fun_ext λ m.
     same file budget m (call_verdict file budget m) ∙ ap (λ cells. call_from cells file budget m) (fun_ext start_is)
   where
     same : (file : List ℕ) (budget : ℕ) (m : Memory) (v : Verdict) → answered true file budget m v ≡ answered_from start_cells file budget m v
-    same file budget m (verdicts.Refused number index) = refl
-    same file budget m verdicts.Accepted = refl
+    same file budget m (Err refusal) = refl
+    same file budget m (Ok _) = refl
 
 -- the cells that an accepted call leaves
 unfoldable pub left_quick : List ℕ → ℕ → Memory → ℕ → Lab Cell

@@ -11,8 +11,8 @@ use Rattle.places.specs.Sets.{Within}
 use Rattle.places.proofs.Sets.{within_refl, within_trans}
 use Rattle.book.specs.Records.{Book, SameScripts}
 use Rattle.book.specs.Layout.{decode}
-use Rattle.book.specs.declared.Verdict.{Verdict}
-use Rattle.book.specs.declared.Verdict.TheVariants.{Accepted, Refused}
+use Rattle.book.specs.Refusals.{Verdict}
+use Rattle.std.specs.Prelude.{Ok, Err}
 use Rattle.monitor.specs.Labelled.{Label}
 use Rattle.monitor.specs.Run.{Out, done, stop}
 use Rattle.monitor.specs.Rules.{monitored, run}
@@ -41,8 +41,8 @@ accepted_is file budget m h = go (call_verdict file budget m) h
   where
     go : (v : Verdict) → accepted (answered true file budget m v).answer ≡ true
         → answered true file budget m v ≡ result_of budget m (ran file budget m)
-    go Accepted h = refl
-    go (Refused number index) h = absurd (false≢true h)
+    go (Ok _) h = refl
+    go (Err refusal) h = absurd (false≢true h)
 
 finished_is : (budget : ℕ) (m : Memory) (o : Out (Unit {0})) → finished (result_of budget m o).answer ≡ true → is_done o ≡ true
 unfolding finished result_of is_done

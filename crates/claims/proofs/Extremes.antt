@@ -10,11 +10,10 @@ use native.Mathlib.Omega.{arith}
 use lib.IntN.{ℤ, pos, negsuc}
 use lib.Signed.{lt_z}
 use borrow.Author.Tests.{ltb-true, ltb-false, le-ltb}
+use Rattle.std.specs.Prelude.{Option, Some, None}
 use Rattle.monitor.specs.Labelled.{Lab, lit, lift2, via}
 use Rattle.monitor.specs.Run.{Cell}
 use Rattle.monitor.specs.Rules.{Box, in_box, gather, seen, amounts_of, count_of, sum_of, best, best_of, aggregate, found}
-use Rattle.monitor.specs.declared.Amount.{Amount}
-use Rattle.monitor.specs.declared.Amount.TheVariants.{Exact, Nothing}
 use Rattle.claims.specs.Extremes.{Present, NonePresent, finds, FindsBest, Extremes}
 
 -- the laws by which one pass finds the best: nothing beats itself, of two at most one beats the other, and not to beat carries over
@@ -59,9 +58,9 @@ amounts_append (c ∷ cs) ds = go c.present (amounts_append cs ds)
 
 module _ (beats : ℤ → ℤ → Bool) where
   -- the best so far, with one amount more
-  abbrev better : Amount → ℤ → Amount
-  better Nothing x = Exact x
-  better (Exact z) x = Exact (cond (beats x z) x z)
+  abbrev better : Option ℤ → ℤ → Option ℤ
+  better None x = Some x
+  better (Some z) x = Some (cond (beats x z) x z)
 
   best_last : (z : ℤ) (zs : List ℤ) (x : ℤ) → best beats z (zs ++ (x ∷ [])) ≡ cond (beats x (best beats z zs)) x (best beats z zs)
   unfolding best
@@ -71,11 +70,11 @@ module _ (beats : ℤ → ℤ → Bool) where
   best_of_last : (zs : List ℤ) (x : ℤ) → best_of beats (zs ++ (x ∷ [])) ≡ better (best_of beats zs) x
   unfolding best_of best
   best_of_last [] x = refl
-  best_of_last (z ∷ zs) x = ap Exact (best_last z zs x)
+  best_of_last (z ∷ zs) x = ap Some (best_last z zs x)
 
   module _ (cells : ℕ → Lab Cell) (p : ℕ) (x : Box) where
     -- the best of the cells that are gathered below place n
-    abbrev best_below : ℕ → Amount
+    abbrev best_below : ℕ → Option ℤ
     best_below n = best_of beats (amounts_of (gather cells (in_box x) (64 * p) n).val)
 
     -- all amounts of present cells of the range below place n are in P
@@ -86,26 +85,26 @@ module _ (beats : ℤ → ℤ → Bool) where
     one_more f g q w l h = elim (eq-or-lt_of_le (le_of_suc-le-suc l)) [ inl e ↦ g w (rw e at h) | inr l ↦ f q w l h ]
 
     -- what that best says of them
-    data BestBelow (n : ℕ) : Amount → Type 0 where
-      none : EachBelow n (λ w. ⊥) → BestBelow n Nothing
-      some : {z : ℤ} (q : ℕ) → Present cells p x q z → EachBelow n (λ w. beats w z ≡ false) → BestBelow n (Exact z)
+    data BestBelow (n : ℕ) : Option ℤ → Type 0 where
+      none : EachBelow n (λ w. ⊥) → BestBelow n None
+      some : {z : ℤ} (q : ℕ) → Present cells p x q z → EachBelow n (λ w. beats w z ≡ false) → BestBelow n (Some z)
 
     -- a place holds one amount
     only : {q : ℕ} {y z : ℤ} → Present cells p x q z → beats z y ≡ false → (w : ℤ) → Present cells p x q w → beats w y ≡ false
     only h e w k = rw (sym k.amount ∙ h.amount) e
 
     -- place n counts for nothing
-    passed : {n : ℕ} {a : Amount} → BestBelow n a → ((w : ℤ) → Present cells p x n w → ⊥) → BestBelow (suc n) a
+    passed : {n : ℕ} {a : Option ℤ} → BestBelow n a → ((w : ℤ) → Present cells p x n w → ⊥) → BestBelow (suc n) a
     passed (none f) g = none (one_more f g)
     passed (some q h f) g = some q h (one_more f (λ w k. absurd (g w k)))
 
     module _ (order : Order beats) where
       -- place n counts
-      taken : {n : ℕ} {a : Amount} {z : ℤ} → BestBelow n a → Present cells p x n z → BestBelow (suc n) (better a z)
+      taken : {n : ℕ} {a : Option ℤ} {z : ℤ} → BestBelow n a → Present cells p x n z → BestBelow (suc n) (better a z)
       taken {n} {z = z} (none f) h = some n h (one_more (λ q w l k. absurd (f q w l k)) (only h (order.itself z)))
       taken {n} {z = z} (some {z = y} q k f) h = go (beats z y) refl
         where
-          go : (b : Bool) → beats z y ≡ b → BestBelow (suc n) (Exact (cond b z y))
+          go : (b : Bool) → beats z y ≡ b → BestBelow (suc n) (Some (cond b z y))
           go true e = some n h (one_more (λ q w l k. order.over w y z (f q w l k) (order.one_way z y e)) (only h (order.itself z)))
           go false e = some q k (one_more f (only h e))
 
@@ -122,7 +121,7 @@ module _ (beats : ℤ → ℤ → Bool) where
           go true false e k f = rw (e, gather) (rw (amounts_append, k, amounts_of, append-nil) (passed f (λ w h. false≢true (sym k ∙ h.present))))
           go false d e k f = rw (e, gather) (passed f (λ w h. false≢true (sym e ∙ h.inside)))
 
-    none_nothing : {a : Amount} → BestBelow 64 a → NonePresent cells p x → a ≡ Nothing
+    none_nothing : {a : Option ℤ} → BestBelow 64 a → NonePresent cells p x → a ≡ None
     none_nothing (none f) n = refl
     none_nothing (some q h f) n = absurd (n q _ h)
 
@@ -135,13 +134,13 @@ module _ (beats : ℤ → ℤ → Bool) where
     stops = λ i p x s n. rw (none_nothing s.cells p x.val (places s.cells p x.val refl) n);
   }
     where
-      places : (cells : ℕ → Lab Cell) (p : ℕ) (x : Box) {a : Amount} → finds kind cells p x ≡ a → BestBelow cells p x 64 a
+      places : (cells : ℕ → Lab Cell) (p : ℕ) (x : Box) {a : Option ℤ} → finds kind cells p x ≡ a → BestBelow cells p x 64 a
       places cells p x e = rw (sym (is _) ∙ e) at (all_below cells p x order 64 (omega arith))
 
-not_nothing : {z : ℤ} → Exact z ≡ Nothing → ⊥
+not_nothing : {z : ℤ} → Some z ≡ None → ⊥
 not_nothing e = let d : ◌≡◌ {A = ℕ} 0 1 = cc in omega arith
 
-no_amounts : (zs : List ℤ) → best_of lt_z zs ≡ Nothing → zs ≡ []
+no_amounts : (zs : List ℤ) → best_of lt_z zs ≡ None → zs ≡ []
 unfolding best_of
 no_amounts [] e = refl
 no_amounts (z ∷ zs) e = absurd (not_nothing e)

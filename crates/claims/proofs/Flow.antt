@@ -6,6 +6,7 @@ use Prim.Native.Nat.{ℕ, zero, suc, ◌+◌, ◌*◌}
 use lib.Dec.{eqb}
 use lib.IntN.{ℤ, pos}
 use borrow.Author.Tests.{eqb-true}
+use Rattle.std.specs.Prelude.{Option, Some, None}
 use Rattle.places.specs.Sets.{union, difference, Within}
 use Rattle.places.proofs.Sets.{within_trans, within_union_right, union_least, difference_within}
 use Rattle.book.specs.Records.{Book}
@@ -15,8 +16,6 @@ use Rattle.monitor.specs.Labelled.{Label, bottom, Lab, lift, lift2, under}
 use Rattle.monitor.specs.Run.{Cell, held, Rights, State, changed, M, ◌>>=◌, ◌>>◌, ret, update}
 use Rattle.monitor.specs.Syntax.{Exp, const, var, add, minus, less, query, Cmd, skip, assign, seq, branch, while, put, clear, out, grant, revoke, raise}
 use Rattle.monitor.specs.Rules.{Key, key, from_to, Box, box_of, in_box, gather, seen, aggregate, ranged, found, expr, monitored, Env, within_label, choose, posting, trigger_vars, region_places, granted, revoked, trigger_run, fire, write_cell, command, eval, exec, program, run}
-use Rattle.monitor.specs.declared.Amount.{Amount}
-use Rattle.monitor.specs.declared.Amount.TheVariants.{Exact, Nothing}
 use Rattle.claims.specs.TwoBooks.{Group}
 use Rattle.claims.proofs.Views.{seen_of, gift}
 use Rattle.claims.proofs.Low.{View, Hidden, hidden_left, hidden_right, Same, equal, same_inside, same_lift, same_lift2, same_via, same_under, same_raised, same_update, Safe, Alike}
@@ -32,25 +31,25 @@ pair_ranged : {v : View} (i : ℕ) {x y : Lab ℤ} → Same v.R x y → Pair v (
 unfolding ranged
 pair_ranged i h = pair_bind (pair_need _ _ 22 i) λ _ _ _. pair_ret h
 
-still_found : {v : View} (i : ℕ) (l : Label) (x : Amount) → Still v Any (found i l x)
+still_found : {v : View} (i : ℕ) (l : Label) (x : Option ℤ) → Still v Any (found i l x)
 unfolding found seen_of
-still_found i l (Exact z) = still_ranged i _
-still_found i l Nothing = λ s r. stops refl
+still_found i l (Some z) = still_ranged i _
+still_found i l None = λ s r. stops refl
 
 -- amounts that the group cannot tell apart; where one of two that are hidden is none, that run stops and shows nothing more
-pair_found : {v : View} (i : ℕ) (x y : Lab Amount) → Same v.R x y → Pair v (Same v.R) (found i x.lab x.val) (found i y.lab y.val)
+pair_found : {v : View} (i : ℕ) (x y : Lab (Option ℤ)) → Same v.R x y → Pair v (Same v.R) (found i x.lab x.val) (found i y.lab y.val)
 unfolding found seen_of lift
 pair_found {v} i x y h = go x.val y.val (same_lift amount h)
   where
-    amount : Amount → ℤ
-    amount (Exact z) = z
-    amount Nothing = pos 0
+    amount : Option ℤ → ℤ
+    amount (Some z) = z
+    amount None = pos 0
 
-    go : (a b : Amount) → Same v.R (record { val = amount a; lab = x.lab }) (record { val = amount b; lab = y.lab })
+    go : (a b : Option ℤ) → Same v.R (record { val = amount a; lab = x.lab }) (record { val = amount b; lab = y.lab })
         → Pair v (Same v.R) (found i x.lab a) (found i y.lab b)
-    go (Exact z) (Exact w) h = pair_ranged i h
-    go Nothing b h = λ s t r. first_stops (begun_nil _ refl)
-    go (Exact z) Nothing h = λ s t r. second_stops (begun_nil _ refl)
+    go (Some z) (Some w) h = pair_ranged i h
+    go None b h = λ s t r. first_stops (begun_nil _ refl)
+    go (Some z) None h = λ s t r. second_stops (begun_nil _ refl)
 
 same_picked : {R : Label} (x : Bool) (f : List Cell → Cell → List Cell) {rest rest' : Lab (List Cell)} {c c' : Lab Cell}
     → Same R rest rest' → Same R c c'

@@ -4,14 +4,13 @@ use mathlib.Core.List.{List, [], ◌∷◌}
 use mathlib.Core.Bool.{Bool, true, false, ◌&&◌}
 use Prim.Native.Nat.{ℕ}
 use lib.IntN.{ℤ, pos}
+use Rattle.std.specs.Prelude.{Option, Some, None}
 use Rattle.book.specs.Records.{Book}
 use Rattle.book.specs.Refusals.{is_zero}
 use Rattle.monitor.specs.Labelled.{Label, Lab, lift2}
 use Rattle.monitor.specs.Run.{Cell, State, Rec, M, next, ◌>>=◌, ret, look, each, when, plainly, inside, guard, need, commit, set_var, set_cell, tell, own, undoing}
 use Rattle.monitor.specs.Syntax.{Exp, const, var, add, minus, equal, less, query, Cmd, skip, assign, seq, branch, while, put, clear, out, grant, revoke, raise}
 use Rattle.monitor.specs.Rules.{Key, ranged, found, expr, Mode, Env, choose, posting, trigger_run, fire, write_cell, command}
-use Rattle.monitor.specs.declared.Amount.{Amount}
-use Rattle.monitor.specs.declared.Amount.TheVariants.{Exact, Nothing}
 
 -- a relation between runs
 abbrev pub Relation : Type 1
@@ -77,10 +76,10 @@ module _ {mode mode' : Mode} {Rel : Relation} (kept : Kept mode mode' Rel) where
     ranges i x = binds (needs _ 22 i) λ _. returns x
 
     -- a halt is a test that does not pass
-    finds : (i : ℕ) (l : Label) (x : Amount) → Rel (Lab ℤ) (found i l x) (found i l x)
+    finds : (i : ℕ) (l : Label) (x : Option ℤ) → Rel (Lab ℤ) (found i l x) (found i l x)
     unfolding found need guard next
-    finds i l (Exact z) = ranges i _
-    finds i l Nothing = binds (needs false 31 i) λ _. returns (record { val = pos 0; lab = l })
+    finds i l (Some z) = ranges i _
+    finds i l None = binds (needs false 31 i) λ _. returns (record { val = pos 0; lab = l })
 
     twos : (i a c : ℕ) (f : ℤ → ℤ → ℤ)
         → Rel (Lab ℤ) (ev a >>= λ x. ev c >>= λ y. ranged i (lift2 f x y)) (ev' a >>= λ x. ev' c >>= λ y. ranged i (lift2 f x y))

@@ -5,8 +5,8 @@ use mathlib.Core.Bool.{Bool, true, false, false≢true}
 use Prim.Native.Nat.{ℕ, zero, suc}
 use lib.IntN.{ℤ}
 use Rattle.book.specs.Records.{Book}
-use Rattle.book.specs.declared.Verdict.{Verdict}
-use Rattle.book.specs.declared.Verdict.TheVariants.{Accepted, Refused}
+use Rattle.book.specs.Refusals.{Verdict}
+use Rattle.std.specs.Prelude.{Ok, Err}
 use Rattle.monitor.specs.Labelled.{Label, Lab}
 use Rattle.monitor.specs.Run.{Cell, State, Rec, Out, done, stop, M, after, next, Test, inside, guard, with_vars, restore, own, taken_back, undoing}
 use Rattle.monitor.specs.Rules.{Mode, monitored, Env, eval, exec, program, run}
@@ -100,8 +100,8 @@ finished_done budget m (stop t h s) e = e
 follows_answer : (file : List ℕ) (budget : ℕ) (m : Memory) (v : Verdict)
     → finished (answered true file budget m v).answer ≡ true → answered false file budget m v ≡ answered true file budget m v
 unfolding answered run_book
-follows_answer file budget m (Refused number index) e = refl
-follows_answer file budget m Accepted e = ap (result_of budget m) (follows_run _ _ _ (finished_done budget m _ e))
+follows_answer file budget m (Err refusal) e = refl
+follows_answer file budget m (Ok _) e = ap (result_of budget m) (follows_run _ _ _ (finished_done budget m _ e))
 
 pub no_labels_same : NoLabelsSame
 unfolding call

@@ -12,6 +12,7 @@ use lib.Dec.{eqb, ltb}
 use lib.Bits.{bit_or}
 use lib.IntN.{ℤ, pos}
 use lib.ListN.{length, get_or, length-replicate}
+use Rattle.std.specs.Prelude.{Option, Some, None}
 use Rattle.places.specs.Sets.{Words, empty, union, within}
 use Rattle.places.proofs.Sets.{length_word_by_word, words_union, words_set_of}
 use Rattle.places.proofs.Shapes.{set_of_none}
@@ -27,8 +28,6 @@ use Rattle.monitor.specs.Run.{Cell, Rights, State, Rec, said, changed, Halt, abo
 use Rattle.monitor.specs.Syntax.{Exp, const, var, add, minus, equal, less, query, Cmd, skip, assign, seq, branch, while, put, clear, out, grant, revoke, raise, cmd_of}
 use Rattle.monitor.specs.Rules.{Key, key, key_place, in_table, from_to, Box, box_of, in_box, gather, seen, ranged, found, expr, Mode, Env, within_label, choose, posting, trigger_vars, region_places, trigger_run, fire, write_cell, command, eval, exec, program, run}
 use Rattle.monitor.specs.Call.{script, start_cells, start_state, run_book}
-use Rattle.monitor.specs.declared.Amount.{Amount}
-use Rattle.monitor.specs.declared.Amount.TheVariants.{Exact, Nothing}
 use Rattle.claims.specs.Reasons.{Bound, variable, cell, reader, everyone}
 use Rattle.claims.specs.Undone.{standing_run}
 use Rattle.claims.proofs.Views.{records, end}
@@ -340,10 +339,10 @@ module _ (b : Book) (mode : Mode) where
   unfolding ranged
   keeps_ranged i x h = keeps_bind (keeps_need _ 22 i refl) λ _ _. keeps_ret h
 
-  keeps_found : (i : ℕ) (l : Label) (x : Amount) → Small l → Keeps Short (found i l x)
+  keeps_found : (i : ℕ) (l : Label) (x : Option ℤ) → Small l → Keeps Short (found i l x)
   unfolding found
-  keeps_found i l (Exact z) h = keeps_ranged i _ h
-  keeps_found i l Nothing h = λ s f. stops none (λ _. plain refl) f
+  keeps_found i l (Some z) h = keeps_ranged i _ h
+  keeps_found i l None h = λ s f. stops none (λ _. plain refl) f
 
   module _ (ev : ℕ → M (Lab ℤ)) (k : (a : ℕ) → Keeps Short (ev a)) where
     keeps_two : (i a c : ℕ) (f : ℤ → ℤ → ℤ) → Keeps Short (ev a >>= λ x. ev c >>= λ y. ranged i (lift2 f x y))

@@ -19,12 +19,12 @@ Group = ℕ → Bool
 
 -- a book is accepted if its run answers none of the refusals, and a run finishes if it meets no stop
 unfoldable pub accepted : Answer → Bool
-accepted (Refused number index) = false
+accepted (Refused refusal) = false
 accepted (Stopped number node cost bytes) = true
 accepted (Finished cost bytes) = true
 
 unfoldable pub finished : Answer → Bool
-finished (Refused number index) = false
+finished (Refused refusal) = false
 finished (Stopped number node cost bytes) = false
 finished (Finished cost bytes) = true
 

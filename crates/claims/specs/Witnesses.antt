@@ -15,6 +15,8 @@ use Rattle.monitor.specs.declared.Answer.TheVariants.{Refused, Stopped, Finished
 use Rattle.claims.specs.TwoBooks.{Group, accepted, finished, visible, group_trace, Begins, reach, SameInside, DifferOutside, cells_in}
 use Rattle.claims.specs.Claims.{LearnsNothing}
 use Rattle.claims.specs.Undone.{standing_run}
+use Rattle.book.specs.declared.Reason.TheVariants as reasons
+use Rattle.book.specs.Refusals.{refusal_of}
 
 -- the group of these users
 unfoldable pub members : List ℕ → Group
@@ -373,9 +375,9 @@ pub record NoLeaks : Type 0 where
 -- ---- the terms, at their limits
 
 pub record Terms : Type 0 where
-  pub accepting : map accepted (Refused 1 0 ∷ Refused 10 7 ∷ Stopped 21 0 0 0 ∷ Stopped 30 1 2 8 ∷ Finished 0 0 ∷ Finished 9 8 ∷ [])
+  pub accepting : map accepted (Refused (refusal_of reasons.Lent 0) ∷ Refused (refusal_of reasons.Trigger 7) ∷ Stopped 21 0 0 0 ∷ Stopped 30 1 2 8 ∷ Finished 0 0 ∷ Finished 9 8 ∷ [])
       ≡ false ∷ false ∷ true ∷ true ∷ true ∷ true ∷ []
-  pub finishing : map finished (Refused 1 0 ∷ Refused 10 7 ∷ Stopped 21 0 0 0 ∷ Stopped 30 1 2 8 ∷ Finished 0 0 ∷ Finished 9 8 ∷ [])
+  pub finishing : map finished (Refused (refusal_of reasons.Lent 0) ∷ Refused (refusal_of reasons.Trigger 7) ∷ Stopped 21 0 0 0 ∷ Stopped 30 1 2 8 ∷ Finished 0 0 ∷ Finished 9 8 ∷ [])
       ≡ false ∷ false ∷ false ∷ false ∷ true ∷ true ∷ []
   -- records of kinds 0 to 6 with a member and with another
   pub to_member : map (λ kind. visible (members (3 ∷ [])) (changed kind 3 0)) (0 ∷ 1 ∷ 2 ∷ 3 ∷ 4 ∷ 5 ∷ 6 ∷ [])

@@ -1,6 +1,6 @@
 -- A command of a script that is run, as the code that executes it meets it. Assumes nothing.
 use mathlib.Core.Path.{◌≡◌, sym, ◌∙◌}
-use mathlib.Core.List.{List, []}
+use mathlib.Core.List.{List}
 use mathlib.Core.Bool.{false, and-false}
 use Prim.Native.Nat.{ℕ, ◌+◌, ◌*◌, ◌≤◌, ◌<◌}
 use native.Mathlib.Decide.{dec_lt}
@@ -9,6 +9,7 @@ use lib.Dec.{eqb, leb}
 use lib.IntN.{ℤ}
 use lib.ListN.{length}
 use borrow.Author.Tests.{lt-leb, eq-eqb, ne_eqb}
+use Rattle.std.specs.Prelude.{Ok, Err, Some}
 use Rattle.book.specs.Bytes.{byte, le16}
 use Rattle.book.specs.Kinds.{command, between, cost_of}
 use Rattle.book.specs.Refusals.{node_at}
@@ -16,17 +17,15 @@ use Rattle.monitor.specs.Labelled.{Label, Lab}
 use Rattle.monitor.specs.Run.{◌>>◌}
 use Rattle.monitor.specs.Rules.{cost_at}
 use Rattle.machine.specs.Script.{script_of, Runnable, Node}
-use Rattle.machine.specs.Store.{cells_held, used_of, Store, store, Lent}
-use Rattle.machine.specs.Promises.{Paid, Short, Pays, Enters, Commands, Who}
-use Rattle.machine.specs.declared.Outcome.{Outcome}
-use Rattle.machine.specs.declared.Outcome.TheVariants.{Done, Stopped}
-use Rattle.machine.proofs.Nodes.{Read, read_at, node_below, kind_below}
+use Rattle.machine.specs.Store.{cells_held, Store}
+use Rattle.machine.specs.Promises.{Outcome, stopped, Paid, Short, Pays, Enters, Commands}
+use Rattle.machine.specs.declared.Who.{Who}
+use Rattle.machine.specs.declared.lent.Run.{Run}
+use Rattle.machine.proofs.Nodes.{read}
 use Rattle.machine.proofs.Runs.{with_run}
-use Rattle.commands.specs.declared.Next.{Next}
-use Rattle.commands.specs.declared.Next.TheVariants.{Enter}
-use Rattle.commands.specs.Parts.{Decides}
+use Rattle.commands.specs.Parts.{Next, Decides}
 use Rattle.commands.proofs.Chains.{Head, head_list, head_single}
-use Rattle.commands.proofs.Steps.{lent_on, Rest, rest_both, priced, paid_keeps}
+use Rattle.commands.proofs.Steps.{Rest, rest_both, priced}
 use Rattle.commands.proofs.Tests.{while_goes}
 
 -- a kind that is none of 18 to 22
@@ -40,51 +39,35 @@ outside_kinds {j} {k} e not18 not19 not20 not21 not22 = rw (← e) (go (dec_lt k
     go (yes h) = rw (lt-leb 18 k h)
     go (no h) = rw (lt-leb k 22 (past (past (past (past (past (omega arith) not18) not19) not20) not21) not22)) (and-false (leb 18 k))
 
--- a node and its record in the script
+-- the cost of a command
 module _ {code : List ℕ} {n : ℕ} (runs : Runnable code) (node : Node command (script_of code) n) where
-  pub read : Read code (16 * n) (node_at (script_of code) n)
-  read = read_at code runs n node.inside
-
-  pub inside : n < 1024
-  inside = node_below (script_of code) runs.sound n node.inside
-
-  pub kind_inside : byte code (16 * n) < 27
-  kind_inside = rw read.kind (kind_below (script_of code) runs.sound n node.inside)
-
   -- its cost, which the code looks up by the kind, is paid
-  pub cost_paid : {run run' : List ℕ} {r : Outcome} → Pays run (cost_of (byte code (16 * n))) n r run' → r ≡ Done → Paid run (cost_at (script_of code) n) run'
-  cost_paid p done = (priced code n read.kind p).paid done
+  pub cost_paid : {run run' : Run} {r : Outcome} → Pays run (cost_of (byte code (16 * n))) n r run' → r ≡ Ok tt → Paid run (cost_at (script_of code) n) run'
+  cost_paid p done = (priced code n (read runs node).kind p).paid done
 
   -- or it would pass the budget
-  pub cost_short : {run run' : List ℕ} {r : Outcome} → Pays run (cost_of (byte code (16 * n))) n r run' → r ≡ Stopped → Short run (cost_at (script_of code) n) n run'
-  cost_short p stopped = (priced code n read.kind p).short stopped
-
--- once it is paid, the memory can be lent on
-pub lent_paid : {code : List ℕ} {sets : List (List ℕ)} {run run' : List ℕ} {trace : List ℕ} (n : ℕ)
-    → Lent code sets run trace → Paid run (cost_at (script_of code) n) run' → Lent code sets run' trace
-lent_paid {code} {sets} {run} {run'} {trace} n lent p =
-    let x : Store = store [] sets run trace in
-    lent_on {x = x} {x' = with_run x run'} lent (paid_keeps code n {x = x} lent.room p)
+  pub cost_short : {run run' : Run} {r : Outcome} → Pays run (cost_of (byte code (16 * n))) n r run' → r ≡ Err stopped → Short run (cost_at (script_of code) n) n run'
+  cost_short p e = (priced code n (read runs node).kind p).short e
 
 -- a turn of a list of commands enters the first half of a sequence, whose cost is paid, or else the command itself
 module _ {code : List ℕ} {ctx : Label} {who : Who} {n : ℕ} (runs : Runnable code) (node : Node command (script_of code) n)
-    {vars : ℕ → Lab ℤ} {x : Store} (u : used_of x.run ≤ length x.trace) {next : ℕ} {run : List ℕ} where
-  pub list_turns : byte code (16 * n) ≡ 18 → {paid : List ℕ} {r : Outcome} → Pays x.run (cost_of 18) n r paid → r ≡ Done → run ≡ paid
-      → {a : ℕ} → a ≡ le16 code (16 * n + 2) → next ≡ a → Head code ctx who n vars x (eqb (byte code (16 * n)) 18) next (with_run x run)
-  list_turns more p done run_is is_a is_next =
+    {vars : ℕ → Lab ℤ} {x : Store} (u : x.run.used ≤ length x.trace) {next : ℕ} {y : Store} where
+  pub list_turns : byte code (16 * n) ≡ 18 → {paid : Run} {r : Outcome} → Pays x.run (cost_of 18) n r paid → r ≡ Ok tt → y ≡ with_run x paid
+      → {a : ℕ} → a ≡ le16 code (16 * n + 2) → next ≡ a → Head code ctx who n vars x (eqb (byte code (16 * n)) 18) next y
+  list_turns more p done y_is is_a is_next =
       let r = read runs node in
       let kind = sym r.kind ∙ more in
-      head_list code ctx who n u (eq-eqb _ 18 more) runs node.inside kind (is_next ∙ is_a ∙ r.a) (rw run_is ((priced code n (sym kind) p).paid done))
+      rw y_is (head_list code ctx who n u (eq-eqb _ 18 more) runs node.inside kind (is_next ∙ is_a ∙ r.a) ((priced code n (sym kind) p).paid done))
 
-  pub single_turns : (byte code (16 * n) ≡ 18 → ⊥) → run ≡ x.run → next ≡ n
-      → Head code ctx who n vars x (eqb (byte code (16 * n)) 18) next (with_run x run)
-  single_turns single run_is is_next =
-      rw run_is (head_single code ctx who n u (ne_eqb _ 18 single) node (λ e. single ((read runs node).kind ∙ e)) is_next)
+  pub single_turns : (byte code (16 * n) ≡ 18 → ⊥) → y ≡ x → next ≡ n
+      → Head code ctx who n vars x (eqb (byte code (16 * n)) 18) next y
+  single_turns single y_is is_next =
+      rw y_is (head_single code ctx who n u (ne_eqb _ 18 single) node (λ e. single ((read runs node).kind ∙ e)) is_next)
 
 -- a turn of a while: its test leads to the body, and then the while is entered anew
 pub while_turns : (code : List ℕ) (ctx l : Label) (who : Who) (n : ℕ) → Runnable code → Node command (script_of code) n → (node_at (script_of code) n).kind ≡ 20
     → {vars vars' : ℕ → Lab ℤ} {x x' : Store} → Rest (Commands code ctx who n) vars x (Commands code l who n) vars' x'
-    → {r : Next} {run : List ℕ} {inner : Label} → Decides code n (cells_held x'.amounts x'.sets) vars' x'.run l r run inner → {way : ℕ} → r ≡ Enter way
+    → {r : Next} {run : Run} {inner : Label} → Decides code n (cells_held x'.amounts x'.sets) vars' x'.run l r run inner → {way : ℕ} → r ≡ Ok (Some way)
     → Node command (script_of code) way
     × Rest (Commands code ctx who n) vars x (λ fuel. Enters code inner who way fuel >> Enters code inner who n fuel) vars' (with_run x' run)
 while_turns code ctx l who n runs node kind rest d e =

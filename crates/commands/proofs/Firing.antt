@@ -10,18 +10,18 @@ use lib.Dec.{ltb}
 use lib.IntN.{ℤ, pos}
 use lib.ListN.{length, get_or, replicate, get_or-replicate, get_or-eq_default}
 use Rattle.places.specs.Sets.{union}
+use Rattle.std.specs.Prelude.{Ok, Err, Option, Some, None}
 use Rattle.book.specs.Kinds.{command}
 use Rattle.monitor.specs.Labelled.{Label, Lab, lift, under}
 use Rattle.monitor.specs.Run.{Cell, State, done, M, next, ◌>>◌, each, when, update, sixteen, own}
 use Rattle.monitor.specs.Rules.{Key, monitored, trigger_vars, numbers, trigger_at, fitting, trigger_run, fire, exec}
 use Rattle.machine.specs.Script.{script_of, Runnable, Node}
-use Rattle.machine.specs.Store.{row_at, vars_of, used_of, Store, state}
-use Rattle.machine.specs.Promises.{Does, Enters}
-use Rattle.machine.specs.Writes.{key_in, cell_in, Fires}
-use Rattle.machine.specs.declared.Outcome.{Outcome}
-use Rattle.machine.specs.declared.Outcome.TheVariants.{Done, Stopped}
+use Rattle.machine.specs.Store.{row_at, vars_of, Store, state}
+use Rattle.machine.specs.Promises.{Outcome, stopped, Does, Enters}
+use Rattle.machine.specs.declared.lent.Event.{Event}
+use Rattle.machine.specs.declared.lent.Entry.{Entry}
+use Rattle.machine.specs.Writes.{event_number, key_in, cell_in, Fires}
 use Rattle.triggers.specs.declared.Fitting.{Fitting}
-use Rattle.triggers.specs.declared.Fitting.TheVariants as fitted
 use Rattle.triggers.specs.Search.{first_fitting}
 use Rattle.machine.proofs.Scripts.{trigger_read_at}
 use Rattle.commands.proofs.Steps.{Keeps}
@@ -30,7 +30,7 @@ use Rattle.machine.proofs.Runs.{after_none, comes_to, does_as, sets_vars, then_s
 -- ---- a trigger's variables
 
 -- sixteen zeros of one label
-pub sixteen_are : (ctx : Label) → vars_of (replicate 16 (pos 0)) (replicate 16 ctx) ≡ sixteen (record { val = pos 0; lab = ctx })
+pub sixteen_are : (ctx : Label) → vars_of (record { values = replicate 16 (pos 0); labels = replicate 16 ctx }) ≡ sixteen (record { val = pos 0; lab = ctx })
 unfolding vars_of sixteen
 sixteen_are ctx = λ i p. at p (dec_lt p 16) i
   where
@@ -42,13 +42,13 @@ sixteen_are ctx = λ i p. at p (dec_lt p 16) i
         rw (get_or-eq_default (replicate 16 (pos 0)) (pos 0) {n = p} g, get_or-eq_default (replicate 16 ctx) [] {n = p} g, le-ltb p 16 g)
 
 -- sixteen zeros, of which the first three become those of the write
-pub variables_are : (ctx own : Label) {label : Label} (event : ℕ) (key : List ℤ) {vars : ℕ → Lab ℤ} → label ≡ union ctx own
-    → vars ≡ update (update (update (vars_of (replicate 16 (pos 0)) (replicate 16 ctx))
-    0 (record { val = get_or key 0 (pos 0); lab = row_at (replicate 16 ctx) 0 }))
-    1 (record { val = get_or key 1 (pos 0); lab = row_at (replicate 16 ctx) 1 }))
-    2 (record { val = get_or key 2 (pos 0); lab = label }) → vars ≡ trigger_vars ctx (key_in key) (cell_in event key own)
+pub variables_are : (ctx own : Label) {label : Label} (event : Event) (entry : Entry) {vars : ℕ → Lab ℤ} → label ≡ union ctx own
+    → vars ≡ update (update (update (vars_of (record { values = replicate 16 (pos 0); labels = replicate 16 ctx }))
+    0 (record { val = entry.owner; lab = row_at (replicate 16 ctx) 0 }))
+    1 (record { val = entry.line; lab = row_at (replicate 16 ctx) 1 }))
+    2 (record { val = entry.amount; lab = label }) → vars ≡ trigger_vars ctx (key_in entry) (cell_in event entry own)
 unfolding trigger_vars under lift
-variables_are ctx own event key l e = e ∙ rw (sixteen_are ctx, l)
+variables_are ctx own event entry l e = e ∙ rw (sixteen_are ctx, l)
 
 -- ---- what the triggers do
 
@@ -93,26 +93,28 @@ module _ (code : List ℕ) (ctx : Label) (event place : ℕ) (key : Key) (z : La
     pub body_is : body ≡ (trigger_at (script_of code) number).body
     pub same : (fuel : ℕ) (s : State) → fires t fuel s ≡ (runs number fuel >> fires (suc number) fuel) s
 
-  abbrev chosen : ℕ → ℕ → Bool → Fitting
+  abbrev chosen : ℕ → ℕ → Bool → Option Fitting
   chosen k t y =
-      cond y (fitted.Trigger t (trigger_at (script_of code) t).user (trigger_at (script_of code) t).body) (first_fitting code event place k (suc t))
+      cond y (Some (record { number = t; user = (trigger_at (script_of code) t).user; body = (trigger_at (script_of code) t).body })) (first_fitting code event place k (suc t))
 
-  pub found : (k t : ℕ) → k ≡ count - t → {number user body : ℕ} → first_fitting code event place k t ≡ fitted.Trigger number user body
+  pub found : (k t : ℕ) → k ≡ count - t → {number user body : ℕ} → first_fitting code event place k t ≡ Some (record { number = number; user = user; body = body })
       → Found t number user body
   unfolding first_fitting when
   found zero t h e = absurd (let z : ◌≡◌ {A = ℕ} 0 1 = cc in omega arith)
   found (suc k) t h {number} {user} {body} e = go (fits t) refl (λ e'. found k (suc t) (omega (arith, h)) e')
     where
-      go : (y : Bool) → fits t ≡ y → (first_fitting code event place k (suc t) ≡ fitted.Trigger number user body → Found (suc t) number user body)
+      go : (y : Bool) → fits t ≡ y → (first_fitting code event place k (suc t) ≡ Some (record { number = number; user = user; body = body }) → Found (suc t) number user body)
           → Found t number user body
       go true q later =
-          let here : chosen k t true ≡ fitted.Trigger number user body = sym (ap (chosen k t) q) ∙ e in
-          let n : number ≡ t = cc in
+          let here : chosen k t true ≡ Some (record { number = number; user = user; body = body }) = sym (ap (chosen k t) q) ∙ e in
+          let it : ◌≡◌ {A = Fitting} (record { number = number; user = user; body = body })
+          (record { number = t; user = (trigger_at (script_of code) t).user; body = (trigger_at (script_of code) t).body }) = cc in
+          let n : number ≡ t = ap (λ f. f.number) it in
           record {
             from = omega (arith, n);
             below = omega (arith, n, h);
-            user_is = rw n (cc);
-            body_is = rw n (cc);
+            user_is = rw n (ap (λ f. f.user) it);
+            body_is = rw n (ap (λ f. f.body) it);
             same = λ fuel s. rw n (fires_first t fuel true s (omega (arith, h)) q);
           }
       go false q later =
@@ -125,17 +127,17 @@ module _ (code : List ℕ) (ctx : Label) (event place : ℕ) (key : Key) (z : La
             same = λ fuel s. passes t fuel s (omega (arith, h)) q ∙ on.same fuel s;
           }
 
-  none_fits : (k t : ℕ) → k ≡ count - t → first_fitting code event place k t ≡ fitted.None → (fuel : ℕ) (s : State) → fires t fuel s ≡ done [] tt s
+  none_fits : (k t : ℕ) → k ≡ count - t → first_fitting code event place k t ≡ None → (fuel : ℕ) (s : State) → fires t fuel s ≡ done [] tt s
   unfolding first_fitting each numbers
   none_fits zero t h e fuel s = ap (λ m. m s) (fires_is t 0 fuel (sym h))
   none_fits (suc k) t h e fuel s = go (fits t) refl (λ e'. none_fits k (suc t) (omega (arith, h)) e' fuel s)
     where
-      go : (y : Bool) → fits t ≡ y → (first_fitting code event place k (suc t) ≡ fitted.None → fires (suc t) fuel s ≡ done [] tt s) → fires t fuel s ≡ done [] tt s
-      go true q later = absurd (let here : chosen k t true ≡ fitted.None = sym (ap (chosen k t) q) ∙ e in let z : ◌≡◌ {A = ℕ} 0 1 = cc in omega arith)
+      go : (y : Bool) → fits t ≡ y → (first_fitting code event place k (suc t) ≡ None → fires (suc t) fuel s ≡ done [] tt s) → fires t fuel s ≡ done [] tt s
+      go true q later = absurd (let here : chosen k t true ≡ None = sym (ap (chosen k t) q) ∙ e in let z : ◌≡◌ {A = ℕ} 0 1 = cc in omega arith)
       go false q later = passes t fuel s (omega (arith, h)) q ∙ later (sym (ap (chosen k t) q) ∙ e)
 
   module _ {vars : ℕ → Lab ℤ} {x : Store} where
-    pub none_left : (t : ℕ) → used_of x.run ≤ length x.trace → first_fitting code event place (count - t) t ≡ fitted.None → Does (fires t) vars x Done vars x
+    pub none_left : (t : ℕ) → x.run.used ≤ length x.trace → first_fitting code event place (count - t) t ≡ None → Does (fires t) vars x (Ok tt) vars x
     none_left t u e = sets_vars u λ fuel _. none_fits (count - t) t refl e fuel (state vars x)
 
     -- the trigger's body is run
@@ -145,10 +147,10 @@ module _ (code : List ℕ) (ctx : Label) (event place : ℕ) (key : Key) (z : La
       runs_it : Does (runs number) vars x r vars x'
       runs_it = does_as (λ fuel i. own (sym ev i) (Enters code ctx (record { user = sym f.user_is i; above = sym higher i }) (sym f.body_is i) fuel)) (own_does d)
 
-      pub found_stops : r ≡ Stopped → Does (fires t) vars x r vars x'
+      pub found_stops : r ≡ Err stopped → Does (fires t) vars x r vars x'
       found_stops e = comes_to (λ fuel _. f.same fuel (state vars x)) (then_stops (fires (suc number)) runs_it e)
 
-      pub found_goes : r ≡ Done → {q : Outcome} {x'' : Store} → Does (fires above) vars x' q vars x'' → Does (fires t) vars x q vars x''
+      pub found_goes : r ≡ Ok tt → {q : Outcome} {x'' : Store} → Does (fires above) vars x' q vars x'' → Does (fires t) vars x q vars x''
       found_goes e g = comes_to (λ fuel _. f.same fuel (state vars x)) (then_goes runs_it e (does_as (λ fuel. ap (λ (j : ℕ). fires j fuel) (sym higher)) g))
 
   -- a body is a command, run by one of the eight users
@@ -158,8 +160,8 @@ module _ (code : List ℕ) (ctx : Label) (event place : ℕ) (key : Key) (z : La
       (rw f.body_is trigger.body_command, omega (arith, f.user_is, trigger.user_below))
 
 -- the loop's invariant, for any label of the amount and any variables: what the triggers from `from` on do is the rest of what those from t on do
-pub record Remains (code : List ℕ) (ctx label : Label) (event place : ℕ) (key : List ℤ) (t : ℕ) (x : Store) (from : ℕ) (x' : Store) : Type 0 where
+pub record Remains (code : List ℕ) (ctx label : Label) (event : Event) (place : ℕ) (entry : Entry) (t : ℕ) (x : Store) (from : ℕ) (x' : Store) : Type 0 where
   pub keeps : Keeps x x'
   pub ends : (own : Label) (vars : ℕ → Lab ℤ) → label ≡ union ctx own → {q : Outcome} {x'' : Store}
-      → Does (Fires code ctx from event place (key_in key) (cell_in event key own)) vars x' q vars x''
-      → Does (Fires code ctx t event place (key_in key) (cell_in event key own)) vars x q vars x''
+      → Does (Fires code ctx from (event_number event) place (key_in entry) (cell_in event entry own)) vars x' q vars x''
+      → Does (Fires code ctx t (event_number event) place (key_in entry) (cell_in event entry own)) vars x q vars x''

@@ -6,240 +6,179 @@ ghost use Rattle.places.specs.Sets.{union};
 ghost use Rattle.book.specs.Kinds.{command, between};
 ghost use Rattle.book.specs.Refusals.{node_at};
 ghost use Rattle.monitor.specs.Labelled.{Label, Lab};
-ghost use Rattle.machine.specs.Script.{script_of, Runnable, Node};
-ghost use Rattle.machine.specs.Store.{cells_held, idle, vars_of, store, Lent};
-ghost use Rattle.machine.specs.Promises.{Does, Enters, Commands, Stands, who_of, is_own};
-ghost use Rattle.machine.specs.Writes.{key_in, cell_in, Fires};
-ghost use Rattle.commands.specs.Parts.{end_of, Decides};
+ghost use Rattle.machine.specs.Script.{script_of, Node};
+ghost use Rattle.machine.specs.Store.{cells_held, idle, vars_of, store_of, Public};
+ghost use Rattle.machine.specs.Promises.{Does, Enters, Commands, Stands};
+ghost use Rattle.machine.specs.Writes.{event_number, key_in, cell_in, Fires};
+ghost use Rattle.commands.specs.Parts.{Ready, Decides};
 
-use machine::{Outcome, Posted, Run, Script, Sets, Value, Who};
-use triggers::Fitting;
-
-// Where a test leads: a command to enter, the end of the command whose test it is, or a stop on the way.
-#[derive(Clone, Copy)]
-pub enum Next {
-    Enter(usize),
-    End,
-    Stopped,
-}
+use machine::{Env, Event, Run, Scene, Script, Stopped, Store, Variables, Who};
+use puts::Written;
 
 // Executes command `n`. A sequence is a loop over its list of commands: a long list needs one frame, and the one call of `enter` is compiled in place.
 #[cycle(branch_enter_exec_fire_post_repeat_write)]
 pub fn exec(
-    code: &Script,
+    script: Script,
     n: usize,
-    who: &Who,
-    ctx: &[u64; 8],
-    vars: &mut [i32; 16],
-    tags: &mut [[u64; 8]; 16],
-    cells: &mut [i32; 512],
-    sets: &mut Sets,
-    run: &mut Run,
-    trace: &mut [u8],
-) -> Outcome
-    requires { Lent code.now sets.old run.old trace.old × Node command (script_of code.now) n × ((who_of who.now).user < 8)
-        × (idle sets.old ≡ is_own (who_of who.now)) }
-    ensures { Does (Enters code.now ctx.now (who_of who.now) n)
-        (vars_of vars.old tags.old) (store cells.old sets.old run.old trace.old) result
-        (vars_of vars.new tags.new) (store cells.new sets.new run.new trace.new) }
+    env: &Env,
+    vars: &mut Variables,
+    store: &mut Store,
+) -> Result<(), Stopped>
+    requires { Ready script.bytes.now env.now.who n store.old.sets }
+    ensures { Does (Enters script.entry.bytes.now env.now.ctx env.now.who n)
+        (vars_of vars.old) (store_of store.old) result (vars_of vars.new) (store_of store.new) }
 {
+    let bytes = script.bytes;
     let mut turn = n;
     loop {
         let at = 16 * turn;
-        let more = code[at] == 18;
+        let more = bytes[at] == 18;
         let mut next = turn;
         if more {
-            let paid = machine::pay(code, 18, turn, run);
-            let Outcome::Done = paid else {
-                return Outcome::Stopped;
-            };
-            next = numbers::u16_at(code, at + 2);
+            machine::pay(script, 18, turn, &mut store.run)?;
+            next = numbers::u16_at(bytes, at + 2);
         }
-        let ran = enter(code, next, who, ctx, vars, tags, cells, sets, run, trace);
-        let Outcome::Done = ran else {
-            return Outcome::Stopped;
-        };
+        enter(script, next, env, vars, store)?;
         if !more {
-            return Outcome::Done;
+            return Ok(());
         }
-        turn = numbers::u16_at(code, at + 4);
+        turn = numbers::u16_at(bytes, at + 4);
     }
 }
 
 // Enters one command: pays its cost, or stops with 21, and does what its kind says. A sequence in first place is a list of its own.
 #[cycle(branch_enter_exec_fire_post_repeat_write)]
 fn enter(
-    code: &Script,
+    script: Script,
     n: usize,
-    who: &Who,
-    ctx: &[u64; 8],
-    vars: &mut [i32; 16],
-    tags: &mut [[u64; 8]; 16],
-    cells: &mut [i32; 512],
-    sets: &mut Sets,
-    run: &mut Run,
-    trace: &mut [u8],
-) -> Outcome
-    requires { Lent code.now sets.old run.old trace.old × Node command (script_of code.now) n × ((who_of who.now).user < 8)
-        × (idle sets.old ≡ is_own (who_of who.now)) }
-    ensures { Does (Enters code.now ctx.now (who_of who.now) n)
-        (vars_of vars.old tags.old) (store cells.old sets.old run.old trace.old) result
-        (vars_of vars.new tags.new) (store cells.new sets.new run.new trace.new) }
+    env: &Env,
+    vars: &mut Variables,
+    store: &mut Store,
+) -> Result<(), Stopped>
+    requires { Ready script.bytes.now env.now.who n store.old.sets }
+    ensures { Does (Enters script.entry.bytes.now env.now.ctx env.now.who n)
+        (vars_of vars.old) (store_of store.old) result (vars_of vars.new) (store_of store.new) }
 {
-    let kind = code[16 * n];
+    let bytes = script.bytes;
+    let kind = bytes[16 * n];
     if kind == 18 {
-        return exec(code, n, who, ctx, vars, tags, cells, sets, run, trace);
+        return exec(script, n, env, vars, store);
     }
-    let paid = machine::pay(code, kind, n, run);
-    let Outcome::Done = paid else {
-        return Outcome::Stopped;
-    };
+    machine::pay(script, kind, n, &mut store.run)?;
     match kind {
-        19 => branch(code, n, who, ctx, vars, tags, cells, sets, run, trace),
-        20 => repeat(code, n, who, ctx, vars, tags, cells, sets, run, trace),
-        21 => post(code, n, who, 1, ctx, vars, tags, cells, sets, run, trace),
-        22 => post(code, n, who, 2, ctx, vars, tags, cells, sets, run, trace),
+        19 => branch(script, n, env, vars, store),
+        20 => repeat(script, n, env, vars, store),
+        21 => post(script, n, Event::Put, env, vars, store),
+        22 => post(script, n, Event::Clear, env, vars, store),
         // Two calls: with one, Rattle's own compiler puts the frame of `act` into that of each nested command.
-        17 => actions::act(code, n, who, ctx, vars, tags, cells, sets, run, trace),
-        _ => actions::act(code, n, who, ctx, vars, tags, cells, sets, run, trace),
+        17 => actions::act(script, n, env, vars, store),
+        _ => actions::act(script, n, env, vars, store),
     }
 }
 
 // 19: if a nonzero then b else c; inside, the context gains the condition's label.
 #[cycle(branch_enter_exec_fire_post_repeat_write)]
 fn branch(
-    code: &Script,
+    script: Script,
     n: usize,
-    who: &Who,
-    ctx: &[u64; 8],
-    vars: &mut [i32; 16],
-    tags: &mut [[u64; 8]; 16],
-    cells: &mut [i32; 512],
-    sets: &mut Sets,
-    run: &mut Run,
-    trace: &mut [u8],
-) -> Outcome
-    requires lent { Lent code.now sets.old run.old trace.old × Node command (script_of code.now) n × ((who_of who.now).user < 8)
-        × (idle sets.old ≡ is_own (who_of who.now)) }
-    requires n_value { (node_at (script_of code.now) n).kind ≡ 19 }
-    ensures { Does (Commands code.now ctx.now (who_of who.now) n)
-        (vars_of vars.old tags.old) (store cells.old sets.old run.old trace.old) result
-        (vars_of vars.new tags.new) (store cells.new sets.new run.new trace.new) }
+    env: &Env,
+    vars: &mut Variables,
+    store: &mut Store,
+) -> Result<(), Stopped>
+    requires ready { Ready script.bytes.now env.now.who n store.old.sets }
+    requires n_value { (node_at (script_of script.bytes.now) n).kind ≡ 19 }
+    ensures { Does (Commands script.entry.bytes.now env.now.ctx env.now.who n)
+        (vars_of vars.old) (store_of store.old) result (vars_of vars.new) (store_of store.new) }
 {
-    let mut inner = *ctx;
-    let next = decide(code, n, vars, tags, cells, sets, run, &mut inner);
-    let Next::Enter(way) = next else {
-        return ended(next);
+    let mut inner = *env;
+    let scene = Scene {
+        script,
+        vars,
+        amounts: &store.amounts,
+        sets: &store.sets,
     };
-    exec(code, way, who, &inner, vars, tags, cells, sets, run, trace)
+    let Some(way) = decide(&scene, n, &mut store.run, &mut inner.ctx)? else {
+        return Ok(());
+    };
+    exec(script, way, &inner, vars, store)
 }
 
 // 20: while a nonzero do b, a loop; its cost is paid anew for each test, and the context has the labels of all tests so far.
 #[cycle(branch_enter_exec_fire_post_repeat_write)]
 fn repeat(
-    code: &Script,
+    script: Script,
     n: usize,
-    who: &Who,
-    ctx: &[u64; 8],
-    vars: &mut [i32; 16],
-    tags: &mut [[u64; 8]; 16],
-    cells: &mut [i32; 512],
-    sets: &mut Sets,
-    run: &mut Run,
-    trace: &mut [u8],
-) -> Outcome
-    requires lent { Lent code.now sets.old run.old trace.old × Node command (script_of code.now) n × ((who_of who.now).user < 8)
-        × (idle sets.old ≡ is_own (who_of who.now)) }
-    requires n_value { (node_at (script_of code.now) n).kind ≡ 20 }
-    ensures { Does (Commands code.now ctx.now (who_of who.now) n)
-        (vars_of vars.old tags.old) (store cells.old sets.old run.old trace.old) result
-        (vars_of vars.new tags.new) (store cells.new sets.new run.new trace.new) }
+    env: &Env,
+    vars: &mut Variables,
+    store: &mut Store,
+) -> Result<(), Stopped>
+    requires ready { Ready script.bytes.now env.now.who n store.old.sets }
+    requires n_value { (node_at (script_of script.bytes.now) n).kind ≡ 20 }
+    ensures { Does (Commands script.entry.bytes.now env.now.ctx env.now.who n)
+        (vars_of vars.old) (store_of store.old) result (vars_of vars.new) (store_of store.new) }
 {
-    let mut inner = *ctx;
+    let mut inner = *env;
     loop {
-        let next = decide(code, n, vars, tags, cells, sets, run, &mut inner);
-        let Next::Enter(body) = next else {
-            return ended(next);
+        let scene = Scene {
+            script,
+            vars,
+            amounts: &store.amounts,
+            sets: &store.sets,
         };
-        let ran = exec(code, body, who, &inner, vars, tags, cells, sets, run, trace);
-        let Outcome::Done = ran else {
-            return Outcome::Stopped;
+        let Some(body) = decide(&scene, n, &mut store.run, &mut inner.ctx)? else {
+            return Ok(());
         };
-        let paid = machine::pay(code, 20, n, run);
-        let Outcome::Done = paid else {
-            return Outcome::Stopped;
-        };
+        exec(script, body, &inner, vars, store)?;
+        machine::pay(script, 20, n, &mut store.run)?;
     }
 }
 
-// The end that a test leads to.
-fn ended(next: Next) -> Outcome
-    ensures { result ≡ end_of next }
-{
-    match next {
-        Next::Enter(_) => Outcome::Done,
-        Next::End => Outcome::Done,
-        Next::Stopped => Outcome::Stopped,
-    }
-}
-
-// The test of 19 and 20: a nonzero leads to b; zero leads an if to c, and a while to its end. Its label is joined to `inner`.
+// The test of 19 and 20: a nonzero leads to b; zero leads an if to c, and a while to none, its end. Its label is joined to `inner`.
 fn decide(
-    code: &Script,
+    scene: &Scene,
     n: usize,
-    vars: &[i32; 16],
-    tags: &[[u64; 8]; 16],
-    cells: &[i32; 512],
-    sets: &Sets,
     run: &mut Run,
     inner: &mut [u64; 8],
-) -> Next
-    requires { Runnable code.now × Node command (script_of code.now) n × (between 19 20 (node_at (script_of code.now) n).kind ≡ true) }
-    ensures { Decides code.now n (cells_held cells.now sets.now)
-        (vars_of vars.now tags.now) run.old inner.old result run.new inner.new }
+) -> Result<Option<usize>, Stopped>
+    requires { Node command (script_of scene.now.script.bytes.now) n
+        × (between 19 20 (node_at (script_of scene.now.script.bytes.now) n).kind ≡ true) }
+    ensures { Decides scene.now.script.bytes.now n (cells_held scene.now.amounts.now scene.now.sets.now)
+        (vars_of scene.now.vars.now) run.old inner.old result run.new inner.new }
 {
+    let bytes = scene.script.bytes;
     let at = 16 * n;
-    let a = numbers::u16_at(code, at + 2);
-    let Value::Known(value) = expressions::eval(code, a, vars, tags, cells, sets, run, inner) else {
-        return Next::Stopped;
+    let a = numbers::u16_at(bytes, at + 2);
+    let Ok(value) = expressions::eval(scene, a, run, inner) else {
+        return Err(Stopped);
     };
     if value != 0 {
-        return Next::Enter(numbers::u16_at(code, at + 4));
+        return Ok(Some(numbers::u16_at(bytes, at + 4)));
     }
-    if code[at] == 20 {
-        return Next::End;
+    if bytes[at] == 20 {
+        return Ok(None);
     }
-    Next::Enter(numbers::u16_at(code, at + 6))
+    Ok(Some(numbers::u16_at(bytes, at + 6)))
 }
 
-// 21 put and 22 clear (event 1 and 2). A posting of the program's own is taken back if it stops; one of a trigger belongs to that under way.
+// 21 put and 22 clear. A posting of the program's own is taken back if it stops; one of a trigger belongs to that under way.
 #[cycle(branch_enter_exec_fire_post_repeat_write)]
 fn post(
-    code: &Script,
+    script: Script,
     n: usize,
-    who: &Who,
-    event: u8,
-    ctx: &[u64; 8],
-    vars: &mut [i32; 16],
-    tags: &mut [[u64; 8]; 16],
-    cells: &mut [i32; 512],
-    sets: &mut Sets,
-    run: &mut Run,
-    trace: &mut [u8],
-) -> Outcome
-    requires lent { Lent code.now sets.old run.old trace.old × Node command (script_of code.now) n × ((who_of who.now).user < 8)
-        × (idle sets.old ≡ is_own (who_of who.now)) }
-    requires n_value { ((node_at (script_of code.now) n).kind ≡ 20 + event) × (0 < event) × (event < 3) }
-    ensures { Does (Commands code.now ctx.now (who_of who.now) n)
-        (vars_of vars.old tags.old) (store cells.old sets.old run.old trace.old) result
-        (vars_of vars.new tags.new) (store cells.new sets.new run.new trace.new) }
+    event: Event,
+    env: &Env,
+    vars: &Variables,
+    store: &mut Store,
+) -> Result<(), Stopped>
+    requires ready { Ready script.bytes.now env.now.who n store.old.sets }
+    requires n_value { (node_at (script_of script.bytes.now) n).kind ≡ 20 + event_number event }
+    ensures { Does (Commands script.entry.bytes.now env.now.ctx env.now.who n)
+        (vars_of vars.now) (store_of store.old) result (vars_of vars.now) (store_of store.new) }
 {
-    let own = undo::begin(sets);
-    let ran = write(
-        code, n, who, event, ctx, vars, tags, cells, sets, run, trace,
-    );
+    let own = undo::begin(&mut store.sets);
+    let ran = write(script, n, event, env, vars, store);
     if own {
-        undo::end(ran, cells, sets);
+        undo::end(ran, &mut store.amounts, &mut store.sets);
     }
     ran
 }
@@ -247,78 +186,59 @@ fn post(
 // What a put or a clear does if it is not taken back: the key and the amount, the write, and the triggers in context plus key label.
 #[cycle(branch_enter_exec_fire_post_repeat_write)]
 fn write(
-    code: &Script,
+    script: Script,
     n: usize,
-    who: &Who,
-    event: u8,
-    ctx: &[u64; 8],
-    vars: &mut [i32; 16],
-    tags: &mut [[u64; 8]; 16],
-    cells: &mut [i32; 512],
-    sets: &mut Sets,
-    run: &mut Run,
-    trace: &mut [u8],
-) -> Outcome
-    requires lent { Lent code.now sets.old run.old trace.old × Node command (script_of code.now) n × ((who_of who.now).user < 8)
-        × (idle sets.old ≡ false) }
-    requires n_value { ((node_at (script_of code.now) n).kind ≡ 20 + event) × (0 < event) × (event < 3) }
-    ensures { Does (Stands code.now ctx.now (who_of who.now) n)
-        (vars_of vars.old tags.old) (store cells.old sets.old run.old trace.old) result
-        (vars_of vars.new tags.new) (store cells.new sets.new run.new trace.new) }
+    event: Event,
+    env: &Env,
+    vars: &Variables,
+    store: &mut Store,
+) -> Result<(), Stopped>
+    requires lent { Public script.bytes.now store.old.sets × Node command (script_of script.bytes.now) n
+        × (env.now.who.user < 8) × (idle store.old.sets ≡ false) }
+    requires n_value { (node_at (script_of script.bytes.now) n).kind ≡ 20 + event_number event }
+    ensures { Does (Stands script.entry.bytes.now env.now.ctx env.now.who n)
+        (vars_of vars.now) (store_of store.old) result (vars_of vars.now) (store_of store.new) }
 {
-    let mut inner = *ctx;
+    let mut inner = *env;
     let mut label = [0u64; 8];
-    let mut key = [0i32; 3];
-    let posted = puts::post(
-        code, n, who, event, vars, tags, cells, sets, run, &mut inner, &mut label, &mut key,
-    );
-    let Posted::At(place) = posted else {
-        return Outcome::Stopped;
-    };
-    fire(
-        code, who, event, place, &inner, &label, &key, cells, sets, run, trace,
-    )
+    let written = puts::post(script, n, event, &mut inner, vars, store, &mut label)?;
+    fire(script, event, written, &inner, &label, store)
 }
 
-// Runs the triggers that fit the write of the cell at `place`, by number, a turn for each; a trigger's writes fire only those above it. Its
-// variables are owner, line and amount in `key`, and 0, of label `ctx` but for the amount's, which is `label`.
+// Runs the triggers that fit a write, by number, a turn for each; a trigger's writes fire only those above it. Its variables are owner, line and
+// amount of the write, and 0, of the context's label but for the amount's, which is `label`.
 #[cycle(branch_enter_exec_fire_post_repeat_write)]
 fn fire(
-    code: &Script,
-    who: &Who,
-    event: u8,
-    place: usize,
-    ctx: &[u64; 8],
+    script: Script,
+    event: Event,
+    written: Written,
+    env: &Env,
     label: &[u64; 8],
-    key: &[i32; 3],
-    cells: &mut [i32; 512],
-    sets: &mut Sets,
-    run: &mut Run,
-    trace: &mut [u8],
-) -> Outcome
-    requires { Lent code.now sets.old run.old trace.old × (place < 512) × (idle sets.old ≡ false) }
-    ensures { (own : Label) (vars : ℕ → Lab ℤ) → label.now ≡ union ctx.now own
-        → Does (Fires code.now ctx.now (who_of who.now).above event place (key_in key.now) (cell_in event key.now own))
-        vars (store cells.old sets.old run.old trace.old) result
-        vars (store cells.new sets.new run.new trace.new) }
+    store: &mut Store,
+) -> Result<(), Stopped>
+    requires { Public script.bytes.now store.old.sets × (written.place < 512) × (idle store.old.sets ≡ false) }
+    ensures { (own : Label) (vars : ℕ → Lab ℤ) → label.now ≡ union env.now.ctx own
+        → Does (Fires script.entry.bytes.now env.now.ctx env.now.who.above (event_number event) written.place (key_in written.entry) (cell_in event written.entry own))
+        vars (store_of store.old) result vars (store_of store.new) }
 {
-    let mut from = who[machine::ABOVE];
+    let mut from = env.who.above;
     loop {
-        let next = triggers::next_fitting(code, from, event, place);
-        let Fitting::Trigger(number, user, body) = next else {
-            return Outcome::Done;
+        let Some(next) = triggers::next_fitting(script, from, event, written.place) else {
+            return Ok(());
         };
-        from = number + 1;
-        let context = *ctx;
-        let mut vars = [0i32; 16];
-        let mut tags = [context; 16];
-        triggers::set_variables(key, label, &mut vars, &mut tags);
-        let its = [user, from];
-        let ran = exec(
-            code, body, &its, ctx, &mut vars, &mut tags, cells, sets, run, trace,
-        );
-        let Outcome::Done = ran else {
-            return Outcome::Stopped;
+        from = next.number + 1;
+        let mut vars = Variables {
+            values: [0; 16],
+            labels: [env.ctx; 16],
         };
+        triggers::set_variables(written.entry, label, &mut vars);
+        let its = Env {
+            ctx: env.ctx,
+            who: Who {
+                user: next.user,
+                above: from,
+            },
+        };
+        exec(script, next.body, &its, &mut vars, store)?;
     }
 }

@@ -6,24 +6,13 @@
 
 ghost use Rattle.std.specs.Prelude.{◌+◌, ◌≤◌, length};
 
-// The word in the eight bytes at `at`.
-fn word_at(bytes: &[u8], at: usize) -> u64
-    requires { at + 8 ≤ length bytes.now }
-{
-    let low = numbers::u32_at(bytes, at) as u64;
-    let high = numbers::u32_at(bytes, at + 4) as u64;
-    low + 4294967296 * high
-}
-
 // The set in the 64 bytes at `at`.
 fn set_at(bytes: &[u8], at: usize) -> [u64; 8]
     requires { at + 64 ≤ length bytes.now }
 {
     let mut set = [0u64; 8];
-    let mut word: usize = 0;
-    while word < 8 {
-        set[word] = word_at(bytes, at + 8 * word);
-        word += 1;
+    for word in 0..8 {
+        set[word] = numbers::u64_at(bytes, at + 8 * word);
     }
     set
 }
@@ -53,11 +42,9 @@ fn step() -> bool {
 
 // Compares the pairs one after another, up to a million.
 fn main() {
-    let mut turns: usize = 0;
-    while turns < 1000000 {
+    for _ in 0..1000000 {
         if !step() {
             return;
         }
-        turns += 1;
     }
 }

@@ -2,7 +2,7 @@
 use mathlib.Core.Path.{◌≡◌, refl, sym, ap, ◌∙◌}
 use mathlib.Core.List.{List}
 use mathlib.Core.Bool.{true, false, false≢true}
-use mathlib.Core.Option.{Option, none, some}
+use Rattle.std.specs.Prelude.{Option, Some, None}
 use Prim.Native.Nat.{ℕ, zero, suc, ◌+◌, ◌-◌, ◌*◌, ◌/◌, ◌%◌, ◌^◌, ◌≤◌, ◌<◌}
 use native.Mathlib.Decide.{dec_lt}
 use native.Mathlib.Nat.{not-suc-le-zero, pow-suc}
@@ -14,7 +14,7 @@ use borrow.Author.Tests.{eq-eqb}
 use Rattle.places.specs.Sets.{bit, has, lowest}
 use Rattle.places.proofs.Bits.{bit_zero}
 use Rattle.places.proofs.Sets.{has_below}
-use Rattle.places.proofs.Counting.{None, Least, found, missing, least_is}
+use Rattle.places.proofs.Counting.{NonePicked, Least, found, missing, least_is}
 use Rattle.counting.proofs.Bits.{bit_zeroth, bit_next, has_at}
 
 -- ---- the lowest bit of a number
@@ -45,17 +45,17 @@ trailing_lowest (suc k) n p h =
 -- ---- the lowest member of a set
 
 -- a member below which there is none
-lowest_is : (s : List ℕ) (p : ℕ) → has s p ≡ true → None (has s) p → lowest s ≡ some p
+lowest_is : (s : List ℕ) (p : ℕ) → has s p ≡ true → NonePicked (has s) p → lowest s ≡ Some p
 unfolding lowest
 lowest_is s p e h = go (least_is (has s) (64 * length s))
   where
-    same : (r : ℕ) → has s r ≡ true → None (has s) r → Dec (r < p) → Dec (p < r) → r ≡ p
+    same : (r : ℕ) → has s r ≡ true → NonePicked (has s) r → Dec (r < p) → Dec (p < r) → r ≡ p
     same r m l (yes a) b = absurd (false≢true (sym (h r a) ∙ m))
     same r m l (no a) (yes b) = absurd (false≢true (sym (l p b) ∙ e))
     same r m l (no a) (no b) = omega arith
 
-    go : {o : Option ℕ} → Least (has s) (64 * length s) o → o ≡ some p
-    go (found {p = r} l m n) = ap some (same r m n (dec_lt r p) (dec_lt p r))
+    go : {o : Option ℕ} → Least (has s) (64 * length s) o → o ≡ Some p
+    go (found {p = r} l m n) = ap Some (same r m n (dec_lt r p) (dec_lt p r))
     go (missing n) = absurd (false≢true (sym (n p (has_below s p e)) ∙ e))
 
 -- ---- word by word
@@ -64,21 +64,21 @@ lowest_is s p e h = go (least_is (has s) (64 * length s))
 abbrev pub Zeros : List ℕ → ℕ → Type 0
 Zeros s w = (i : ℕ) → i < w → get_or s i 0 ≡ 0
 
-zeros_none : (s : List ℕ) (w : ℕ) → Zeros s w → None (has s) (64 * w)
+zeros_none : (s : List ℕ) (w : ℕ) → Zeros s w → NonePicked (has s) (64 * w)
 unfolding has
 zeros_none s w z k h = rw (z (k / 64) (omega arith), bit_zero (k % 64))
 
 -- all words of the set are 0
-pub lowest_missing : (s : List ℕ) (w : ℕ) → length s ≤ w → Zeros s w → lowest s ≡ none
+pub lowest_missing : (s : List ℕ) (w : ℕ) → length s ≤ w → Zeros s w → lowest s ≡ None
 unfolding lowest
 lowest_missing s w i z = go (least_is (has s) (64 * length s))
   where
-    go : {o : Option ℕ} → Least (has s) (64 * length s) o → o ≡ none
+    go : {o : Option ℕ} → Least (has s) (64 * length s) o → o ≡ None
     go (found {p = r} l m n) = absurd (false≢true (sym (zeros_none s w z r (omega arith)) ∙ m))
     go (missing n) = refl
 
 -- word w is the first that is not 0
-pub lowest_word : (s : List ℕ) (w : ℕ) → Zeros s w → 0 < get_or s w 0 → get_or s w 0 < 2 ^ 64 → lowest s ≡ some (64 * w + count_trailing_zeros 64 (get_or s w 0))
+pub lowest_word : (s : List ℕ) (w : ℕ) → Zeros s w → 0 < get_or s w 0 → get_or s w 0 < 2 ^ 64 → lowest s ≡ Some (64 * w + count_trailing_zeros 64 (get_or s w 0))
 lowest_word s w z p f = lowest_is s (64 * w + t) (has_at s w t low.below ∙ eq-eqb (bit t x) 1 low.set) (λ k l. lower k l (dec_lt k (64 * w)))
   where
     x : ℕ

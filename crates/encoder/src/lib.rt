@@ -55,11 +55,7 @@ pub fn copy_part(source: &[u8], from: usize, count: usize, out: &mut [u8], at: u
     requires { (from + count ≤ length source.now) × (at + count ≤ length out.old) }
     ensures { out.new ≡ take at out.old ++ take count (drop from source.now) ++ drop (at + count) out.old }
 {
-    let mut copied: usize = 0;
-    while copied < count {
-        out[at + copied] = source[from + copied];
-        copied += 1;
-    }
+    out[at..at + count].copy_from_slice(&source[from..from + count]);
 }
 
 // Writes the records of the present cells from byte 0 on, places rising; answers how many bytes that is. Later bytes stay. The bit is tested
@@ -70,14 +66,12 @@ pub fn write_cells(amounts: &[i32], presence: [u64; 8], out: &mut [u8]) -> usize
         × (out.new ≡ section_bytes cells_format (cells_from amounts.now presence 512 0) ++ drop result out.old) × (result ≤ 4096) }
 {
     let mut end: usize = 0;
-    let mut place: usize = 0;
-    while place < 512 {
+    for place in 0..512 {
         let word = presence[place / 64];
         if (word >> (place % 64)) % 2 == 1 {
             put_cell(out, end, place, amounts[place]);
             end += 8;
         }
-        place += 1;
     }
     end
 }
@@ -88,10 +82,8 @@ fn put_label(labels: &[u64], place: usize, out: &mut [u8], at: usize)
     ensures { out.new ≡ take at out.old ++ labels_format.write (label_record labels.now place) ++ drop (at + 66) out.old }
 {
     put_u16(out, at, place);
-    let mut word: usize = 0;
-    while word < 8 {
+    for word in 0..8 {
         put_u64(out, at + 2 + 8 * word, labels[8 * place + word]);
-        word += 1;
     }
 }
 
@@ -104,13 +96,11 @@ pub fn write_labels(labels: &[u64], out: &mut [u8], at: usize) -> usize
         × (result ≤ at + 33792) }
 {
     let mut end = at;
-    let mut cell: usize = 0;
-    while cell < 512 {
+    for cell in 0..512 {
         if !labels::is_own(labels, cell) {
             put_label(labels, cell, out, end);
             end += 66;
         }
-        cell += 1;
     }
     end
 }
@@ -137,9 +127,7 @@ fn put_pairs(file: &[u8], out: &mut [u8], at: usize, cells: usize, behind: usize
 {
     let counts = file.len() - 26;
     let mut distance = behind;
-    let mut section: usize = 6;
-    while 1 < section {
-        section -= 1;
+    for section in (1..6).rev() {
         let count = numbers::u16_at(file, counts + 4 * section);
         distance += count * SIZE[section];
         put_pair(out, at + 4 * section, distance, count);

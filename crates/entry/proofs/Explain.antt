@@ -6,17 +6,16 @@ use Prim.Native.Nat.{ℕ}
 use lib.ListN.{length}
 use Rattle.places.specs.Sets.{has, tally, size, least, lowest, difference}
 use Rattle.places.proofs.Sets.{has_difference}
-use Rattle.book.specs.declared.Verdict.{Verdict}
+use Rattle.book.specs.Refusals.{Verdict}
 use Rattle.monitor.specs.Labelled.{Label, bottom}
 use Rattle.monitor.specs.Run.{Compared, about_labels, Out, done, stop}
 use Rattle.monitor.specs.Call.{Memory, call_verdict}
 use Rattle.monitor.specs.Explain.{stands, Explanation, reason, no_reason, explanation, explained, explain_call}
-use Rattle.counting.specs.Named.{named}
 use Rattle.entry.specs.Entry.{Runs}
 use Rattle.entry.specs.Explain.{Explains, obstacle, obstacle_at, obstacle_after, obstacle_called}
 use Rattle.entry.specs.Explain as promises
 use Rattle.entry.specs.declared.Explained.{Explained}
-use Rattle.book.specs.declared.Verdict.TheVariants as verdicts
+use Rattle.std.specs.Prelude.{Ok, Err}
 
 abbrev pub counted : Label → Explanation
 counted places = record { place = lowest places; count = size places }
@@ -47,12 +46,12 @@ end_counted (stop t h s) l = stop_counted h.number h.compared l
 pub explained_counted : (file : List ℕ) (budget : ℕ) (m : Memory) (v : Verdict) → length (obstacle_after file budget m bottom v) ≡ 8
     → explained file budget m v ≡ counted (obstacle_after file budget m bottom v)
 unfolding explained obstacle_after
-explained_counted file budget m (verdicts.Refused number index) l = sym counted_none
-explained_counted file budget m verdicts.Accepted l = end_counted _ l
+explained_counted file budget m (Err refusal) l = sym counted_none
+explained_counted file budget m (Ok _) l = end_counted _ l
 
 -- a call of the run that leaves these places, and their count and the lowest of them
 pub explains : (file : List ℕ) (budget : ℕ) (before after : Memory) (r : Explained) {places : Label} → Runs file budget before r.answer after
-    → places ≡ obstacle_called file budget before bottom → length places ≡ 8 → named r.place ≡ lowest places → r.count ≡ size places
+    → places ≡ obstacle_called file budget before bottom → length places ≡ 8 → r.place ≡ lowest places → r.count ≡ size places
     → Explains file budget before r after
 unfolding explain_call
 explains file budget before after r e o l p c =

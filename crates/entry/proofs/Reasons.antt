@@ -2,7 +2,7 @@
 use mathlib.Core.Path.{◌≡◌, refl, sym, ap, ◌∙◌, subst}
 use mathlib.Core.List.{List}
 use mathlib.Core.Bool.{Bool, true, false, ◌&&◌, not, cond, true≢false, false≢true}
-use mathlib.Core.Option.{none}
+use Rattle.std.specs.Prelude.{None}
 use Prim.Native.Nat.{ℕ, ◌/◌}
 use native.Mathlib.Omega.{arith}
 use lib.ListN.{length}
@@ -12,10 +12,10 @@ use Rattle.places.proofs.Sets.{has_below, within_members}
 use Rattle.places.proofs.Counting.{some_none, picked, none_picked, least_tally}
 use Rattle.book.proofs.Chains.{both}
 use Rattle.book.specs.Records.{Book}
-use Rattle.book.specs.Refusals.{node_at}
+use Rattle.book.specs.Refusals.{node_at, Verdict}
 use Rattle.book.specs.Layout.{decode}
-use Rattle.book.specs.declared.Verdict.{Verdict}
-use Rattle.book.specs.declared.Verdict.TheVariants as verdicts
+use Rattle.std.specs.Prelude.{Ok, Err}
+use Rattle.book.specs.declared.Refusal.{Refusal}
 use Rattle.monitor.specs.Labelled.{Lab}
 use Rattle.monitor.specs.Run.{Cell, Rec, State, Compared, Halt, about_labels, Out, done, stop, with_cells}
 use Rattle.monitor.specs.Rules.{standing}
@@ -33,8 +33,8 @@ use Rattle.entry.specs.Claims.{StopsWith, TrueOf, TrueReason}
 use Rattle.entry.proofs.Values.{run_values}
 
 -- answers that differ
-refused_accepted : {A : Type 0} {n i : ℕ} → verdicts.Refused n i ≡ verdicts.Accepted → A
-refused_accepted e = let z : ◌≡◌ {A = ℕ} 0 1 = cc in absurd (omega arith)
+refused_accepted : {A : Type 0} {refusal : Refusal} {v : Verdict} → v ≡ Err refusal → v ≡ Ok tt → A
+refused_accepted e f = let z : ◌≡◌ {A = ℕ} 0 1 = cc in absurd (omega arith)
 
 -- ---- the sets of a stop
 
@@ -49,7 +49,7 @@ module _ (c : Compared) where
       go x false e h = absurd (false≢true (sym e ∙ rw h))
 
   -- some place stands in a set tested that is not within its bound
-  some_stands : Small c.tested → within c.tested c.bound ≡ false → least (stands c) 512 ≡ none → ⊥
+  some_stands : Small c.tested → within c.tested c.bound ≡ false → least (stands c) 512 ≡ None → ⊥
   some_stands small w e =
       let all : (q : ℕ) → has c.tested q ≡ true → has c.bound q ≡ true =
       λ q h. in_bound q (none_picked (stands c) 512 e q (omega (arith, has_below c.tested q h, small.few))) h in
@@ -65,7 +65,7 @@ bound_of b (everyone n e) = everyone n (e ∙ script_public b)
 
 -- a stop about labels has one, and some place stands in its way
 reasoned : (b : Book) {s : State} {h : Halt} → Reasoned (script b) h s → about_labels h.number ≡ true
-    → Bound b s h × (least (stands h.compared) 512 ≡ none → ⊥)
+    → Bound b s h × (least (stands h.compared) 512 ≡ None → ⊥)
 reasoned b {h = h} (outside w x small) a = (bound_of b w, some_stands h.compared small x)
 reasoned b (plain x) a = absurd (true≢false (sym a ∙ x))
 
@@ -99,7 +99,7 @@ module _ (file : List ℕ) (budget : ℕ) (before after : Memory) (answer : Answ
   unfolding number
   same_number r w = ap number (sym r ∙ w.run_is)
 
-  stop_true : (t : List Rec) (h : Halt) (s : State) (cells : ℕ → Lab Cell) → call_verdict file budget before ≡ verdicts.Accepted
+  stop_true : (t : List Rec) (h : Halt) (s : State) (cells : ℕ → Lab Cell) → call_verdict file budget before ≡ Ok tt
       → Run (stop t h (with_cells cells s)) → Stands (stop t h s) → Reasoned (script (decode file)) h s
       → (b : Bool) → about_labels h.number ≡ b → True (cond b (reason h.compared) no_reason)
   unfolding number reason stands
@@ -128,7 +128,7 @@ module _ (file : List ℕ) (budget : ℕ) (before after : Memory) (answer : Answ
   }
   stop_true t h s cells v r n w false a = no_names (λ halt x y. true≢false (sym y ∙ ap about_labels (sym (same_number r x)) ∙ a))
 
-  end_true : {o o' : Out (Unit {0})} → call_verdict file budget before ≡ verdicts.Accepted → Run o → Stands o'
+  end_true : {o o' : Out (Unit {0})} → call_verdict file budget before ≡ Ok tt → Run o → Stands o'
       → SameButCells o o' → Fine (script (decode file)) standing Any o' → True (explanation o)
   unfolding explanation number
   end_true v r n both_done f = no_names (λ halt x y. true≢false (sym y ∙ ap about_labels (sym (same_number r x))))
@@ -136,8 +136,8 @@ module _ (file : List ℕ) (budget : ℕ) (before after : Memory) (answer : Answ
 
   call_true : (v : Verdict) → call_verdict file budget before ≡ v → True (explained file budget before v)
   unfolding explained
-  call_true (verdicts.Refused n i) v = no_names (λ halt x y. refused_accepted (sym v ∙ x.accepts))
-  call_true verdicts.Accepted v =
+  call_true (Err refusal) v = no_names (λ halt x y. refused_accepted v x.accepts)
+  call_true (Ok _) v =
       let room : ℕ = length before.trace / 8 in
       end_true v refl refl (only_cells_back true (decode file) budget room) (fine_standing true (decode file) budget room)
 

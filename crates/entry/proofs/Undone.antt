@@ -6,7 +6,7 @@ use mathlib.Core.Bool.{true, false≢true}
 use Prim.Native.Nat.{ℕ, ◌/◌}
 use lib.ListN.{length}
 use Rattle.book.specs.Layout.{decode}
-use Rattle.book.specs.declared.Verdict.{Verdict}
+use Rattle.book.specs.Refusals.{Verdict}
 use Rattle.monitor.specs.Run.{Out}
 use Rattle.monitor.specs.Call.{Memory, Result, run_book, memory_after, result_of, call_verdict, answered, call}
 use Rattle.monitor.specs.Explain.{explanation, explained, ExplainResult, explain_call}
@@ -18,7 +18,7 @@ use Rattle.claims.proofs.Undone.{only_cells_back}
 use Rattle.claims.proofs.Demand3.{accepted_is}
 use Rattle.entry.specs.Entry.{result, Runs}
 use Rattle.entry.specs.Claims.{standing_result, OnlyCellsBack, ExplainedBefore}
-use Rattle.book.specs.declared.Verdict.TheVariants as verdicts
+use Rattle.std.specs.Prelude.{Ok, Err}
 
 -- ---- two ends of a run
 
@@ -47,7 +47,7 @@ same_explanation (both_stop cells) = refl
 
 finished_accepted : (r : Answer) → finished r ≡ true → accepted r ≡ true
 unfolding finished accepted
-finished_accepted (Refused number index) e = e
+finished_accepted (Refused refusal) e = e
 finished_accepted (Stopped number node cost bytes) e = refl
 finished_accepted (Finished cost bytes) e = refl
 
@@ -71,8 +71,8 @@ module _ (file : List ℕ) (budget : ℕ) (before : Memory) where
   by_verdict : (v : Verdict) → accepted (answered true file budget before v).answer ≡ true
       → explained file budget before v ≡ explanation (standing_run true (decode file) budget room)
   unfolding answered accepted explained
-  by_verdict (verdicts.Refused number index) a = absurd (false≢true a)
-  by_verdict verdicts.Accepted a = same_explanation beside
+  by_verdict (Err refusal) a = absurd (false≢true a)
+  by_verdict (Ok _) a = same_explanation beside
 
 pub only_cells_taken : OnlyCellsBack
 only_cells_taken file budget before after r e = record {

@@ -1,11 +1,9 @@
 -- The claims about the entries, as statements over what they ensure: `Runs file budget before r after` is the contract of `run`, and
 -- `Explains file budget before r after` that of `explain`, word for word. So each claim is about calls, from the file to the end. Their proofs
 -- are in proofs/.
-use Rattle.std.specs.Prelude.{◌≡◌, List, true, false, ◌&&◌, not, ◌↔◌, ℕ, ◌/◌, ◌<◌, length}
-use Rattle.std.proofs.Math.Option.{none, some}
+use Rattle.std.specs.Prelude.{◌≡◌, List, true, false, ◌&&◌, not, ◌↔◌, ℕ, ◌/◌, ◌<◌, length, Some, None, Ok}
 use Rattle.places.specs.Sets.{has, Within, tally}
 use Rattle.book.specs.Layout.{decode}
-use Rattle.book.specs.declared.Verdict.TheVariants as verdicts
 use Rattle.monitor.specs.Labelled.{Label}
 use Rattle.monitor.specs.Run.{Rec, State, Halt, about_labels, stop, with_cells}
 use Rattle.monitor.specs.Call.{Memory, Result, values, run_book, call_verdict, result_of, call}
@@ -47,7 +45,7 @@ Demand3Within = (g : Group) (R : Label) (file file' : List ℕ) (budget budget' 
 
 -- A call that comes to this stop: its book is accepted, and its run stops with it, and leaves this state.
 pub record StopsWith (file : List ℕ) (budget : ℕ) (before : Memory) (halt : Halt) : Type 0 where
-  pub accepts : call_verdict file budget before ≡ verdicts.Accepted
+  pub accepts : call_verdict file budget before ≡ Ok tt
   pub records : List Rec
   pub state : State
   pub run_is : run_book true (decode file) budget (length before.trace / 8) ≡ stop records halt state
@@ -75,9 +73,9 @@ pub record Reason (file : List ℕ) (budget : ℕ) (before : Memory) (answer : A
 -- What is true of an explanation: a place that it names is a true reason; its count is 0 just where it names none; and a stop with 25, 26,
 -- 27 or 29 always names one.
 pub record TrueOf (file : List ℕ) (budget : ℕ) (before : Memory) (answer : Answer) (e : Explanation) : Type 0 where
-  pub reason : (p : ℕ) → e.place ≡ some p → Reason file budget before answer p e.count
-  pub none_zero : (e.place ≡ none) ↔ (e.count ≡ 0)
-  pub names : (halt : Halt) → StopsWith file budget before halt → about_labels halt.number ≡ true → (e.place ≡ none → ⊥)
+  pub reason : (p : ℕ) → e.place ≡ Some p → Reason file budget before answer p e.count
+  pub none_zero : (e.place ≡ None) ↔ (e.count ≡ 0)
+  pub names : (halt : Halt) → StopsWith file budget before halt → about_labels halt.number ≡ true → (e.place ≡ None → ⊥)
 
 -- The reason that the tool gives is true, at every call.
 abbrev pub TrueReason : Type 0

@@ -1,14 +1,14 @@
 -- What the entry promises: its answer and lent memory at exit are those of the call that the rules define.
-use Rattle.std.specs.Prelude.{◌≡◌, List, true, ℕ, ◌-◌, ◌*◌, ◌/◌, ℤ, length}
+use Rattle.std.specs.Prelude.{◌≡◌, List, true, ℕ, ◌-◌, ◌*◌, ◌/◌, ℤ, length, Ok, Err}
 use Rattle.book.specs.Layout.{decode}
 use Rattle.monitor.specs.Run.{State, Rec, Halt, done, stop}
 use Rattle.monitor.specs.Call.{Memory, Result, values, run_book, call_verdict, call}
 use Rattle.monitor.specs.declared.Answer.{Answer}
 use Rattle.monitor.specs.declared.Answer.TheVariants.{Stopped, Finished}
-use Rattle.machine.specs.Store.{left_of, used_of, number_of, node_of}
-use Rattle.machine.specs.declared.Outcome.{Outcome}
-use Rattle.machine.specs.declared.Outcome.TheVariants as outcome
-use Rattle.book.specs.declared.Verdict.TheVariants as verdicts
+use Rattle.machine.specs.Promises.{Outcome}
+use Rattle.machine.specs.declared.lent.Run.{Run}
+use Rattle.book.specs.declared.Refusal.{Refusal}
+use Rattle.book.specs.Refusals.{number_of as reason_number}
 
 -- lent memory
 abbrev pub lent : List ℤ → List ℕ → List ℕ → List ℕ → Memory
@@ -26,12 +26,12 @@ Runs file budget before r after = result r after ≡ call true file budget befor
 -- The answer of such a call in the paper's numbers: a refusal's number and index; or, of a book that is run, the stop's number and node, 0 and 0
 -- where it finishes, with the cost and eight bytes for each record of the trace.
 pub record ValuesAre (file : List ℕ) (budget : ℕ) (before : Memory) (r : Answer) : Type 0 where
-  pub refused : (number index : ℕ) → call_verdict file budget before ≡ verdicts.Refused number index
-      → values r ≡ record { number = number; at = index; cost = 0; bytes = 0 }
-  pub stopped : (t : List Rec) (h : Halt) (s : State) → call_verdict file budget before ≡ verdicts.Accepted
+  pub refused : (refusal : Refusal) → call_verdict file budget before ≡ Err refusal
+      → values r ≡ record { number = reason_number refusal.reason; at = refusal.index; cost = 0; bytes = 0 }
+  pub stopped : (t : List Rec) (h : Halt) (s : State) → call_verdict file budget before ≡ Ok tt
       → run_book true (decode file) budget (length before.trace / 8) ≡ stop t h s
       → values r ≡ record { number = h.number; at = h.node; cost = budget - s.left; bytes = 8 * length t }
-  pub finished : (t : List Rec) (s : State) → call_verdict file budget before ≡ verdicts.Accepted
+  pub finished : (t : List Rec) (s : State) → call_verdict file budget before ≡ Ok tt
       → run_book true (decode file) budget (length before.trace / 8) ≡ done t tt s
       → values r ≡ record { number = 0; at = 0; cost = budget - s.left; bytes = 8 * length t }
 
@@ -39,6 +39,6 @@ abbrev pub RunValues : Type 0
 RunValues = (file : List ℕ) (budget : ℕ) (before after : Memory) (r : Answer) → Runs file budget before r after → ValuesAre file budget before r
 
 -- the answer for the end of a run, from its numbers: the cost is what was spent of the budget
-unfoldable pub answer_of : Outcome → List ℕ → ℕ → Answer
-answer_of outcome.Done run budget = Finished (budget - left_of run) (used_of run)
-answer_of outcome.Stopped run budget = Stopped (number_of run) (node_of run) (budget - left_of run) (used_of run)
+unfoldable pub answer_of : Outcome → Run → ℕ → Answer
+answer_of (Ok u) run budget = Finished (budget - run.left) run.used
+answer_of (Err e) run budget = Stopped run.number run.node (budget - run.left) run.used

@@ -1,24 +1,21 @@
 -- What the tool that names the cell promises, and the places from which its explanation is counted.
-use Rattle.std.specs.Prelude.{◌≡◌, List, true, cond, ℕ, ◌/◌, length}
+use Rattle.std.specs.Prelude.{◌≡◌, List, true, cond, ℕ, ◌/◌, length, Ok, Err}
 use Rattle.places.specs.Sets.{difference}
-use Rattle.counting.specs.Named.{named}
 use Rattle.book.specs.Layout.{decode}
-use Rattle.book.specs.declared.Verdict.{Verdict}
+use Rattle.book.specs.Refusals.{Verdict}
 use Rattle.monitor.specs.Labelled.{Label, bottom}
 use Rattle.monitor.specs.Run.{Compared, about_labels, Out, done, stop}
 use Rattle.monitor.specs.Call.{Memory, run_book, call_verdict}
 use Rattle.monitor.specs.Explain.{ExplainResult, explain_call}
-use Rattle.machine.specs.Store.{number_of}
-use Rattle.machine.specs.Promises.{compared_in}
-use Rattle.machine.specs.declared.Outcome.{Outcome}
+use Rattle.machine.specs.Promises.{Outcome, compared_in}
+use Rattle.machine.specs.declared.lent.Run.{Run}
+use Rattle.machine.specs.declared.lent.Sets.{Sets}
 use Rattle.entry.specs.Entry.{result}
 use Rattle.entry.specs.declared.Explained.{Explained}
-use Rattle.book.specs.declared.Verdict.TheVariants as verdicts
-use Rattle.machine.specs.declared.Outcome.TheVariants as outcome
 
 -- what a call of the tool gives back: the run's answer and lent memory as it leaves it, and the explanation
 abbrev pub explained : Explained → Memory → ExplainResult
-explained r m = record { result = result r.answer m; explanation = record { place = named r.place; count = r.count } }
+explained r m = record { result = result r.answer m; explanation = record { place = r.place; count = r.count } }
 
 -- A call with this file, this budget and this lent memory answers r and leaves that memory: the run of the rules, refusals included, with
 -- the explanation of its end.
@@ -32,9 +29,9 @@ unfoldable pub obstacle : ℕ → Compared → Label
 obstacle number c = cond (about_labels number) (difference c.tested c.bound) bottom
 
 -- of the end of a run as its numbers and its sets hold it
-unfoldable pub obstacle_of : Outcome → List ℕ → List (List ℕ) → Label
-obstacle_of outcome.Done run sets = bottom
-obstacle_of outcome.Stopped run sets = obstacle (number_of run) (compared_in (number_of run) sets)
+unfoldable pub obstacle_of : Outcome → Run → Sets → Label
+obstacle_of (Ok u) run sets = bottom
+obstacle_of (Err e) run sets = obstacle run.number (compared_in run.number sets)
 
 -- of the end of a run of the rules
 unfoldable pub obstacle_at : Out (Unit {0}) → Label
@@ -43,8 +40,8 @@ obstacle_at (stop t h s) = obstacle h.number h.compared
 
 -- and of a call: a refusal leaves the set that is lent for them as it was
 unfoldable pub obstacle_after : List ℕ → ℕ → Memory → Label → Verdict → Label
-obstacle_after file budget m old (verdicts.Refused number index) = old
-obstacle_after file budget m old verdicts.Accepted = obstacle_at (run_book true (decode file) budget (length m.trace / 8))
+obstacle_after file budget m old (Err refusal) = old
+obstacle_after file budget m old (Ok _) = obstacle_at (run_book true (decode file) budget (length m.trace / 8))
 
 abbrev pub obstacle_called : List ℕ → ℕ → Memory → Label → Label
 obstacle_called file budget m old = obstacle_after file budget m old (call_verdict file budget m)

@@ -19,9 +19,9 @@ use Rattle.monitor.specs.Run.{Cell, M, next, ◌>>=◌, look}
 use Rattle.monitor.specs.Syntax.{exp_of}
 use Rattle.monitor.specs.Rules.{from_to, box_of, seen, aggregate, found, expr, eval}
 use Rattle.machine.specs.Script.{script_of}
-use Rattle.machine.specs.Promises.{Gives, Evaluates, Expresses}
-use Rattle.machine.specs.declared.Value.{Value}
-use Rattle.machine.specs.declared.Value.TheVariants.{Known, Stopped}
+use Rattle.machine.specs.Promises.{Gives, Evaluates, Expresses, Value, stopped}
+use Rattle.machine.specs.declared.lent.Run.{Run}
+use Rattle.std.specs.Prelude.{Ok, Err}
 use Rattle.machine.proofs.Runs.{after_none}
 use Rattle.queries.specs.declared.Found.{Found}
 use Rattle.queries.specs.Found.{box, box_in, found_in}
@@ -65,10 +65,10 @@ query_is ev n x e =
     rw (ne_eqb x.kind 2 (omega arith), ne_eqb x.kind 3 (omega arith), ne_eqb x.kind 4 (omega arith), ne_eqb x.kind 5 (omega arith), ne_eqb x.kind 6 (omega arith), e)
 
 -- the cells in the box, with the labels of the bounds and of all of them
-aggregating_gives : (cells : ℕ → Lab Cell) (vars : ℕ → Lab ℤ) (x : NodeRecord) (n : ℕ) {run : List ℕ} {before after : Label} (t u v w : Lab ℤ) {query : Found}
+aggregating_gives : (cells : ℕ → Lab Cell) (vars : ℕ → Lab ℤ) (x : NodeRecord) (n : ℕ) {run : Run} {before after : Label} (t u v w : Lab ℤ) {query : Found}
     → query ≡ found_in x.kind cells (box t.val u.val v.val w.val) x.p
     → after ≡ union before (union (union (union t.lab u.lab) (union v.lab w.lab)) query.label)
-    → {r : Value} {run' : List ℕ} → Answered n query.amount run r run'
+    → {r : Value} {run' : Run} → Answered n query.amount run r run'
     → Gives (λ fuel. aggregating x n t u v w) cells vars run before r run' after
 unfolding next seen via box_of from_to lift2 found_in
 aggregating_gives cells vars x n {before = before} {after = after} t u v w {query} e j h =
@@ -92,15 +92,15 @@ remaining code n k i bounds labels fuel = bounding (eval (script_of code) fuel) 
 
 -- The invariant of the loop: i bounds are in the array, their labels are joined to the lent one, and whatever the rest gives from here,
 -- the query gives.
-pub record Bounding (code : List ℕ) (n : ℕ) (cells : ℕ → Lab Cell) (vars : ℕ → Lab ℤ) (run : List ℕ) (before : Label) (i : ℕ) (bounds : List ℤ) (run' : List ℕ)
+pub record Bounding (code : List ℕ) (n : ℕ) (cells : ℕ → Lab Cell) (vars : ℕ → Lab ℤ) (run : Run) (before : Label) (i : ℕ) (bounds : List ℤ) (run' : Run)
     (after : Label) : Type 0 where
   pub within : i ≤ 4
   pub labels : ℕ → Label
-  pub ends : {r : Value} {run'' : List ℕ} {last : Label} → Gives (remaining code n (4 - i) i bounds labels) cells vars run' before r run'' last
+  pub ends : {r : Value} {run'' : Run} {last : Label} → Gives (remaining code n (4 - i) i bounds labels) cells vars run' before r run'' last
       → Gives (Expresses code n) cells vars run before r run'' last
   pub joined : after ≡ joining before i labels
 
-module _ (code : List ℕ) (n : ℕ) {cells : ℕ → Lab Cell} {vars : ℕ → Lab ℤ} {run : List ℕ} {before : Label} where
+module _ (code : List ℕ) (n : ℕ) {cells : ℕ → Lab Cell} {vars : ℕ → Lab ℤ} {run : Run} {before : Label} where
   pub bounding_starts : between 8 11 (node_in code n).kind ≡ true → Bounding code n cells vars run before 0 no_bounds run before
   unfolding joining
   bounding_starts e = record {
@@ -110,24 +110,24 @@ module _ (code : List ℕ) (n : ℕ) {cells : ℕ → Lab Cell} {vars : ℕ → 
     joined = refl;
   }
 
-  module _ {i : ℕ} {bounds : List ℤ} {run₁ : List ℕ} {after : Label} (b : Bounding code n cells vars run before i bounds run₁ after) where
+  module _ {i : ℕ} {bounds : List ℤ} {run₁ : Run} {after : Label} (b : Bounding code n cells vars run before i bounds run₁ after) where
     -- bound i
-    module _ (h : i < 4) {v : Value} {run₂ : List ℕ} {after' : Label} (g : Gives (Evaluates code (bound_of (node_in code n) i)) cells vars run₁ after v run₂ after') where
+    module _ (h : i < 4) {v : Value} {run₂ : Run} {after' : Label} (g : Gives (Evaluates code (bound_of (node_in code n) i)) cells vars run₁ after v run₂ after') where
       -- what comes after it
       abbrev rest : ℕ → Lab ℤ → M (Lab ℤ)
       rest fuel u = remaining code n (3 - i) (i + 1) (set bounds i u.val) (newest u.lab b.labels) fuel
 
-      from_here : {r : Value} {run' : List ℕ} {last : Label} → Gives (λ fuel. Evaluates code (bound_of (node_in code n) i) fuel >>= rest fuel) cells vars run₁ before r run' last
+      from_here : {r : Value} {run' : Run} {last : Label} → Gives (λ fuel. Evaluates code (bound_of (node_in code n) i) fuel >>= rest fuel) cells vars run₁ before r run' last
           → Gives (Expresses code n) cells vars run before r run' last
       unfolding bounding
       from_here w =
           let e : 4 - i ≡ suc (3 - i) = omega arith in
           b.ends (rw e w)
 
-      pub bounding_stops : {last : Label} → v ≡ Stopped → Gives (Expresses code n) cells vars run before Stopped run₂ last
+      pub bounding_stops : {last : Label} → v ≡ Err stopped → Gives (Expresses code n) cells vars run before (Err stopped) run₂ last
       bounding_stops q = from_here (stops_at g rest q)
 
-      pub bounding_turns : {z : ℤ} → v ≡ Known z → Bounding code n cells vars run before (i + 1) (set bounds i z) run₂ after'
+      pub bounding_turns : {z : ℤ} → v ≡ Ok z → Bounding code n cells vars run before (i + 1) (set bounds i z) run₂ after'
       unfolding joining newest
       bounding_turns {z} q = record {
         within = omega arith;
@@ -141,7 +141,7 @@ module _ (code : List ℕ) (n : ℕ) {cells : ℕ → Lab Cell} {vars : ℕ → 
     -- all four, and the cells in their box
     pub bounding_ends : 4 ≤ i → {query : Found}
         → query ≡ found_in (node_in code n).kind cells (box_in bounds) (node_in code n).p
-        → {r : Value} {run' : List ℕ} → Answered n query.amount run₁ r run' → Gives (Expresses code n) cells vars run before r run' (union after query.label)
+        → {r : Value} {run' : Run} → Answered n query.amount run₁ r run' → Gives (Expresses code n) cells vars run before r run' (union after query.label)
     unfolding bounding joining
     bounding_ends h is w =
         let all : i ≡ 4 = omega (arith, b.within) in

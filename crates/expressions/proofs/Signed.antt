@@ -3,38 +3,18 @@ use mathlib.Core.Path.{◌≡◌, refl, sym, ap, ◌∙◌}
 use mathlib.Core.Bool.{Bool, true, false, ◌&&◌, false≢true}
 use Prim.Native.Nat.{zero, suc, ◌+◌, ◌^◌, ◌≤◌, ◌<◌}
 use native.Mathlib.Nat.{le_refl, le_antisymm}
-use native.Mathlib.Decide.{dec_lt}
+use native.Mathlib.Decide.{ℕ_discrete}
 use native.Mathlib.Omega.{arith}
-use lib.Dec.{leb, ltb}
+use lib.Dec.{eqb, leb}
 use lib.IntN.{ℤ, pos, negsuc, ◌+ℤ◌, ◌-ℤ◌, neg_ℤ}
-use lib.Signed.{mag, lt_z, le_z}
+use lib.Signed.{mag, le_z}
 use mir.Syntax.{Width, w32, w64}
-use mir.Val.{SFits, hbits, to_z, of_z}
+use mir.Val.{SFits, hbits, to_z, of_z, bool_byte}
 use mir.Facts.{to_z-of_z, sfits_widen}
-use borrow.Author.Tests.{lt-ltb, le-ltb, le-leb, lt-leb, ltb-true, ltb-false, leb-true}
+use borrow.Author.Tests.{eq-eqb, ne_eqb, le-leb, leb-true}
 use Rattle.book.proofs.Chains.{both}
-use Rattle.monitor.specs.Rules.{fits_32, from_bool, equals}
+use Rattle.monitor.specs.Rules.{from_bool, equals}
 use Rattle.queries.proofs.Tallies.{mag_sum}
-
--- ---- 32 bits
-
-pub below : (z : ℤ) → lt_z z (negsuc 2147483647) ≡ true → false ≡ fits_32 z
-unfolding fits_32
-below (pos n) e = cc
-below (negsuc n) e = sym (le-ltb n 2147483648 (omega (arith, ltb-true 2147483647 n e)))
-
-pub not_below : (z : ℤ) → lt_z z (negsuc 2147483647) ≡ false → le_z z (pos 2147483647) ≡ fits_32 z
-unfolding fits_32
-not_below (pos n) e = go (dec_lt n 2147483648)
-  where
-    go : Dec (n < 2147483648) → leb n 2147483647 ≡ ltb n 2147483648
-    go (yes l) = le-leb n 2147483647 (omega arith) ∙ sym (lt-ltb n 2147483648 l)
-    go (no g) = lt-leb n 2147483647 (omega arith) ∙ sym (le-ltb n 2147483648 (omega arith))
-not_below (negsuc n) e = sym (lt-ltb n 2147483648 (omega (arith, ltb-false 2147483647 n e)))
-
-pub fits_word : {z : ℤ} → fits_32 z ≡ true → SFits w32 z
-unfolding fits_32
-fits_word {z} e = record { sfits = ltb-true (mag z) 2147483648 e }
 
 -- ---- sums and differences
 
@@ -76,26 +56,27 @@ le_both (negsuc a) (negsuc b) e =
     let p = both (leb b a) _ e in
     ap negsuc (le_antisymm (leb-true a b p.1) (leb-true b a p.0))
 
--- numbers of equal bits are equal
-pub equals_yes : {a b : ℤ} → SFits w32 a → SFits w32 b → of_z w32 a ≡ of_z w32 b → equals a b ≡ pos 1
-unfolding equals
-equals_yes {a} {b} p q e =
-    let same : a ≡ b = sym (to_z-of_z p) ∙ ap (to_z w32) e ∙ to_z-of_z q in
-    rw (same, le_self b)
+-- a test as a number
+pub told : (b : Bool) → pos (bool_byte b) ≡ from_bool b
+told true = refl
+told false = refl
 
-pub equals_no : (a b : ℤ) → (of_z w32 a ≡ of_z w32 b → ⊥) → equals a b ≡ pos 0
+-- numbers are equal where their bits are
+pub equals_is : {a b : ℤ} → SFits w64 a → SFits w64 b → pos (bool_byte (eqb (of_z w64 a) (of_z w64 b))) ≡ equals a b
 unfolding equals
-equals_no a b d = go (le_z a b && le_z b a) refl
+equals_is {a} {b} p q = go (ℕ_discrete (of_z w64 a) (of_z w64 b))
   where
-    go : (y : Bool) → (le_z a b && le_z b a) ≡ y → from_bool y ≡ pos 0
-    go true e = absurd (d (ap (of_z w32) (le_both a b e)))
-    go false e = refl
+    apart : (y : Bool) → (le_z a b && le_z b a) ≡ y → (of_z w64 a ≡ of_z w64 b → ⊥) → pos 0 ≡ from_bool y
+    apart true e d = absurd (d (ap (of_z w64) (le_both a b e)))
+    apart false e d = refl
+
+    go : Dec (of_z w64 a ≡ of_z w64 b) → pos (bool_byte (eqb (of_z w64 a) (of_z w64 b))) ≡ from_bool (le_z a b && le_z b a)
+    go (yes e) =
+        let same : a ≡ b = sym (to_z-of_z p) ∙ ap (to_z w64) e ∙ to_z-of_z q in
+        rw (eq-eqb (of_z w64 a) (of_z w64 b) e, same, le_self b)
+    go (no d) = rw (ne_eqb (of_z w64 a) (of_z w64 b) d) (apart (le_z a b && le_z b a) refl d)
 
 -- ---- a number kept in a local
 
 pub kept : (w : Width) (z : ℤ) → mag z < 2 ^ hbits w → to_z w (of_z w z) ≡ z
 kept w z h = to_z-of_z {w = w} {z = z} (record { sfits = h })
-
--- the test of one
-pub fits_is : (z : ℤ) {b : Bool} → mag z < 2 ^ 63 → b ≡ fits_32 (to_z w64 (of_z w64 z)) → fits_32 z ≡ b
-fits_is z h e = sym (e ∙ ap fits_32 (kept w64 z h))

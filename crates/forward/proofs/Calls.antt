@@ -1,31 +1,29 @@
 -- What carrying a book forward leaves, by the answers of the run and of the writer. Assumes nothing.
-use mathlib.Core.Path.{◌≡◌, sym, ap, ◌∙◌}
+use mathlib.Core.Path.{◌≡◌, refl, sym, ap, ◌∙◌}
 use mathlib.Core.List.{List}
 use mathlib.Core.Bool.{true, false}
 use Prim.Native.Nat.{ℕ}
 use Rattle.monitor.specs.Call.{Memory, Result, call}
 use Rattle.claims.specs.TwoBooks.{finished}
-use Rattle.writer.specs.Write.{WriteCall, written_values}
-use Rattle.writer.specs.declared.Written.{Written}
-use Rattle.writer.specs.declared.Written.TheVariants.{Refused, Wrote}
+use Rattle.writer.specs.Write.{WriteCall, written_values, Written}
+use Rattle.std.specs.Prelude.{Ok, Err}
+use Rattle.std.specs.Result.{result_unwrap_or}
 use Rattle.forward.specs.Forward.{left_book, forward_of, forward_call}
 
 -- ---- the writer's answer
+
+bytes_of : (a : Written) → result_unwrap_or a 0 ≡ (written_values a).bytes
+unfolding written_values
+bytes_of (Ok n) = refl
+bytes_of (Err refusal) = refl
 
 module _ (a : Written) (o : List ℕ) (w : WriteCall) (e : record { answer = a; out = o } ≡ w) where
   left : o ≡ w.out
   left = ap (λ (x : WriteCall). x.out) e
 
-  bytes_of : {b : Written} → a ≡ b → (written_values b).bytes ≡ (written_values w.answer).bytes
-  bytes_of q = ap (λ (x : Written). (written_values x).bytes) (sym q ∙ ap (λ (x : WriteCall). x.answer) e)
-
-  pub none_written : (number index : ℕ) → a ≡ Refused number index → (0 ≡ (written_values w.answer).bytes) × (o ≡ w.out)
-  unfolding written_values
-  none_written number index q = (bytes_of q, left)
-
-  pub all_written : (n : ℕ) → a ≡ Wrote n → (n ≡ (written_values w.answer).bytes) × (o ≡ w.out)
-  unfolding written_values
-  all_written n q = (bytes_of q, left)
+  -- its bytes, 0 where it is refused
+  pub told : {n : ℕ} → n ≡ result_unwrap_or a 0 → (n ≡ (written_values w.answer).bytes) × (o ≡ w.out)
+  told q = (q ∙ bytes_of a ∙ ap (λ (x : WriteCall). (written_values x.answer).bytes) e, left)
 
 -- ---- the answer of the run
 

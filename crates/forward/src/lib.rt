@@ -21,7 +21,7 @@ fn finishes(answer: Answer) -> bool
     ensures { result ≡ finished answer }
 {
     match answer {
-        Answer::Refused(_, _) => false,
+        Answer::Refused(_) => false,
         Answer::Stopped(_, _, _, _) => false,
         Answer::Finished(_, _) => true,
     }
@@ -32,10 +32,7 @@ fn write(file: &[u8], amounts: &[i32], presence: &[u64], labels: &[u64], out: &m
     ensures { (result ≡ (written_values (write_call file.now amounts.now presence.now labels.now out.old).answer).bytes)
         × (out.new ≡ (write_call file.now amounts.now presence.now labels.now out.old).out) }
 {
-    match writer::write(file, amounts, presence, labels, out) {
-        writer::Written::Refused(_, _) => 0,
-        writer::Written::Wrote(bytes) => bytes,
-    }
+    writer::write(file, amounts, presence, labels, out).unwrap_or(0)
 }
 
 // Runs the book in a file as `runner::run` does. Where the run finishes, `out` gets the book with the cells and labels that it left; else it stays.

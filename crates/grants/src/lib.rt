@@ -1,8 +1,7 @@
 // Commands that change the rights: grant and revoke.
 #![tactic(auto)]
 
-ghost use Rattle.std.specs.Prelude.{◌≡◌, true, List, ◌∷◌, ◌++◌, ℕ, ◌+◌, ◌≤◌, ◌<◌, ℤ, eqb, length, drop};
-ghost use Rattle.places.specs.Sets.{union, difference};
+ghost use Rattle.std.specs.Prelude.{◌≡◌, true, ◌∷◌, ◌++◌, ℕ, ◌+◌, ◌≤◌, ◌<◌, ℤ, eqb, length, drop};
 ghost use Rattle.book.specs.Bytes.{byte, le16, four};
 ghost use Rattle.book.specs.Kinds.{command, between};
 ghost use Rattle.book.specs.Refusals.{node_at};
@@ -10,112 +9,100 @@ ghost use Rattle.monitor.specs.Labelled.{Lab};
 ghost use Rattle.monitor.specs.Run.{update};
 ghost use Rattle.monitor.specs.Rules.{region_places};
 ghost use Rattle.monitor.specs.Call.{rows};
-ghost use Rattle.machine.specs.Script.{script_of, Runnable, Node};
-ghost use Rattle.machine.specs.Store.{label_row, users_rows, Replaces, store, Lent};
-ghost use Rattle.machine.specs.Promises.{Does, Commands, who_of};
-ghost use Rattle.grants.specs.Rights.{altered, kind_of};
+ghost use Rattle.machine.specs.Script.{script_of, Node};
+ghost use Rattle.machine.specs.Store.{store_of, Public};
+ghost use Rattle.machine.specs.Promises.{Does, Commands};
+ghost use Rattle.grants.specs.Rights.{altered, right_of, kind_of, Alters};
 
-use machine::{Outcome, Run, Script, Sets, Who};
+use machine::{Env, Right, Script, Sets, Stopped, Store};
 
-// The rights with a region's places added to one user's set.
-fn granted(sets: [[u64; 8]; 8], user: usize, region: [u64; 8]) -> [[u64; 8]; 8]
-    requires { user < 8 }
-    ensures { rows result ≡ update (rows sets) user (union (rows sets user) region) }
-{
-    let mut next = sets;
-    next[user] = places::union(sets[user], region);
-    next
-}
-
-// The rights with a region's places taken out of one user's set.
-fn revoked(sets: [[u64; 8]; 8], user: usize, region: [u64; 8]) -> [[u64; 8]; 8]
-    requires { user < 8 }
-    ensures { rows result ≡ update (rows sets) user (difference (rows sets user) region) }
-{
-    let mut next = sets;
-    next[user] = places::difference(sets[user], region);
-    next
-}
-
-// The rights after 24 grant or 25 revoke.
+// The rights after 24 grant or 25 revoke: a region's places added to one user's set, or taken out of it. They are passed and returned by value:
+// the customer's document fixes this form.
 fn changed(kind: u8, sets: [[u64; 8]; 8], user: usize, region: [u64; 8]) -> [[u64; 8]; 8]
     requires { user < 8 }
     ensures { rows result ≡ update (rows sets) user (altered (eqb kind 24) (rows sets user) region) }
 {
-    if kind == 24 {
-        return granted(sets, user, region);
-    }
-    revoked(sets, user, region)
+    let mut next = sets;
+    next[user] = if kind == 24 {
+        places::union(sets[user], region)
+    } else {
+        places::difference(sets[user], region)
+    };
+    next
 }
 
-// The trace's kind of a change; `right` is 1 read, 2 write.
-fn record_kind(kind: u8, right: u8) -> u8
-    requires { right ≤ 2 }
+// The right that a node names: 1 read, 2 write.
+fn named(number: u8) -> Right
+    ensures { result ≡ right_of number }
+{
+    match number {
+        1 => Right::Read,
+        _ => Right::Write,
+    }
+}
+
+// The trace's kind of a change.
+fn record_kind(kind: u8, right: Right) -> u8
     ensures { result ≡ kind_of (eqb kind 24) right }
 {
-    if kind == 24 {
-        return 1 + right;
+    match (kind, right) {
+        (24, Right::Read) => 2,
+        (24, Right::Write) => 3,
+        (_, Right::Read) => 4,
+        (_, Right::Write) => 5,
     }
-    3 + right
 }
 
-// Grants or revokes as the node at `at` says, in the sets of one right from row `first` on, and writes the record of it at the start of `rest`;
-// `right` is 1 read, 2 write.
-fn alter(code: &Script, at: usize, right: u8, first: usize, sets: &mut Sets, rest: &mut [u8])
-    requires runnable { Runnable code.now × (at + 16 ≤ length code.now) × (first + 8 ≤ label_row) }
-    requires at_bound { (byte code.now (at + 1) < 8) × (le16 code.now (at + 2) < length (script_of code.now).regions) }
-    requires right_bound { (right ≤ 2) × (8 ≤ length rest.old) }
-    ensures replaces { Replaces sets.old first (update (users_rows sets.old first) (byte code.now (at + 1))
-        (altered (eqb (byte code.now at) 24) (users_rows sets.old first (byte code.now (at + 1)))
-        (region_places (script_of code.now) (le16 code.now (at + 2))))) sets.new }
-    ensures rest_after { rest.new ≡ kind_of (eqb (byte code.now at) 24) right
-        ∷ byte code.now (at + 1) ∷ le16 code.now (at + 2) ∷ 0 ∷ four 0 ++ drop 8 rest.old }
+// Grants or revokes as the node at `at` says, and writes the record of it at the start of `rest`.
+fn alter(script: Script, at: usize, sets: &mut Sets, rest: &mut [u8])
+    requires at_bound { (at + 16 ≤ length script.bytes.now) × (byte script.bytes.now (at + 1) < 8)
+        × (le16 script.bytes.now (at + 2) < length (script_of script.bytes.now).regions) }
+    requires rest_bound { 8 ≤ length rest.old }
+    ensures alters { Alters sets.old (right_of (byte script.entry.bytes.now (at + 4))) (byte script.entry.bytes.now (at + 1))
+        (eqb (byte script.entry.bytes.now at) 24)
+        (region_places (script_of script.entry.bytes.now) (le16 script.entry.bytes.now (at + 2))) sets.new }
+    ensures rest_after { rest.new
+        ≡ kind_of (eqb (byte script.entry.bytes.now at) 24) (right_of (byte script.entry.bytes.now (at + 4)))
+        ∷ byte script.entry.bytes.now (at + 1) ∷ le16 script.entry.bytes.now (at + 2) ∷ 0 ∷ four 0 ++ drop 8 rest.old }
 {
-    let kind = code[at];
-    let user = numbers::byte_at(code, at + 1);
-    let region = numbers::u16_at(code, at + 2);
+    let bytes = script.bytes;
+    let kind = bytes[at];
+    let user = numbers::byte_at(bytes, at + 1);
+    let region = numbers::u16_at(bytes, at + 2);
+    let right = named(bytes[at + 4]);
     traces::put_record(rest, record_kind(kind, right), user as u8, region as u8, 0);
-    let old = machine::users_sets(sets, first);
-    let next = changed(kind, old, user, machine::region_places(code, region));
-    machine::store_users(sets, first, next);
+    let old = machine::users_sets(sets, right);
+    let next = changed(kind, old, user, machine::region_places(script, region));
+    machine::store_users(sets, right, next);
 }
 
 // 24 grant and 25 revoke: region a for user p, in the read sets or the write sets. Stops 28, 29 and 30.
-pub fn change(
-    code: &Script,
-    n: usize,
-    who: &Who,
-    ctx: &[u64; 8],
-    sets: &mut Sets,
-    run: &mut Run,
-    trace: &mut [u8],
-) -> Outcome
-    requires lent { Lent code.now sets.old run.old trace.old }
-    requires node { Node command (script_of code.now) n × (between 24 25 (node_at (script_of code.now) n).kind ≡ true) }
-    ensures { (vars : ℕ → Lab ℤ) (cells : List ℤ) → Does (Commands code.now ctx.now (who_of who.now) n)
-        vars (store cells sets.old run.old trace.old) result
-        vars (store cells sets.new run.new trace.new) }
+pub fn change(script: Script, n: usize, env: &Env, store: &mut Store) -> Result<(), Stopped>
+    requires public_set { Public script.bytes.now store.old.sets }
+    requires node { Node command (script_of script.bytes.now) n × (between 24 25 (node_at (script_of script.bytes.now) n).kind ≡ true) }
+    ensures { (vars : ℕ → Lab ℤ) → Does (Commands script.entry.bytes.now env.now.ctx env.now.who n)
+        vars (store_of store.old) result vars (store_of store.new) }
 {
-    let all: &[u32] = run;
-    if who[machine::USER] != 0 {
-        return machine::stop(run, 28, n);
+    if env.who.user != 0 {
+        return Err(machine::stop(&mut store.run, 28, n));
     }
-    let context = *ctx;
-    let everyone = sets[machine::PUBLIC];
-    let compared = places::within(context, everyone);
+    let everyone = store.sets.public;
+    let compared = places::within(env.ctx, everyone);
     if !compared.inside {
-        return machine::stop_outside(run, sets, 29, n, ctx, &everyone);
+        return Err(machine::stop_outside(
+            &mut store.run,
+            &mut store.sets,
+            29,
+            n,
+            &env.ctx,
+            &everyone,
+        ));
     }
-    let used = run[machine::USED] as usize;
-    if trace.len() < used + 8 {
-        return machine::stop(run, 30, n);
+    let used = store.run.used;
+    if store.trace.len() < used + 8 {
+        return Err(machine::stop(&mut store.run, 30, n));
     }
-    run[machine::USED] = run[machine::USED] + 8;
-    let at = 16 * n;
-    if code[at + 4] == 1 {
-        alter(code, at, 1, machine::READ, sets, &mut trace[used..]);
-        return Outcome::Done;
-    }
-    alter(code, at, 2, machine::WRITE, sets, &mut trace[used..]);
-    Outcome::Done
+    alter(script, 16 * n, &mut store.sets, &mut store.trace[used..]);
+    store.run.used += 8;
+    Ok(())
 }

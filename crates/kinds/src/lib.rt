@@ -6,7 +6,6 @@ ghost use Rattle.book.specs.Layout.{count, section, decode};
 ghost use Rattle.book.specs.Start.{tabulate};
 ghost use Rattle.book.specs.Kinds.{cost_of, row_of, sort_of};
 ghost use Rattle.book.specs.Refusals.{Laid, node_at};
-ghost use Rattle.kinds.specs.Table.{kinds_table};
 
 // The sorts of node. A field that names a child has the child's sort as its role.
 pub const NO_KIND: u8 = 0;
@@ -29,7 +28,7 @@ pub const RIGHT: u8 = 7;
 pub const CONSTANT: u8 = 8;
 
 // A row for each kind: its cost, its sort, and the roles of p, a, b, c, d and k.
-const KINDS: [[u8; 8]; 27] = [
+static KINDS: [[u8; 8]; 27] = [
     [1, 0, 0, 0, 0, 0, 0, 0], // 0 none
     [1, 1, 0, 0, 0, 0, 0, 8], // 1 constant k
     [1, 1, 3, 0, 0, 0, 0, 0], // 2 variable p
@@ -59,19 +58,12 @@ const KINDS: [[u8; 8]; 27] = [
     [1, 2, 3, 6, 0, 0, 0, 0], // 26 raise variable p by region a
 ];
 
-// The table. Each use of a constant table builds it anew, so whoever looks up many rows takes it once and lends it down.
-pub fn table() -> [[u8; 8]; 27]
-    ensures { result ≡ kinds_table }
-{
-    KINDS
-}
-
 // Row `at` of the table.
-fn row_at(table: &[[u8; 8]; 27], at: usize) -> book::Row
-    requires { (table.now ≡ kinds_table) × (at < 27) }
+fn row_at(at: usize) -> book::Row
+    requires { at < 27 }
     ensures { result ≡ row_of at }
 {
-    let row = table[at];
+    let row = &KINDS[at];
     book::Row {
         cost: row[0],
         sort: row[1],
@@ -85,38 +77,34 @@ fn row_at(table: &[[u8; 8]; 27], at: usize) -> book::Row
 }
 
 // The row of a kind. A kind past the table is none that there is, as 0 is.
-pub fn row_of(table: &[[u8; 8]; 27], kind: u8) -> book::Row
-    requires { table.now ≡ kinds_table }
+pub fn row_of(kind: u8) -> book::Row
     ensures { result ≡ row_of kind }
 {
     let at = kind as usize;
     if 26 < at {
-        return row_at(table, 0);
+        return row_at(0);
     }
-    row_at(table, at)
+    row_at(at)
 }
 
 // The costs of kinds 0 to 26, a column of the table: the script of a run has them, and a run pays by them, so that no node looks at a whole row.
 pub fn costs() -> [u32; 27]
     ensures { result ≡ tabulate cost_of 27 }
 {
-    let table = table();
     let mut costs = [0u32; 27];
-    let mut kind: usize = 0;
-    while kind < 27 {
-        let row = row_at(&table, kind);
+    for kind in 0..27 {
+        let row = row_at(kind);
         costs[kind] = row.cost as u32;
-        kind += 1;
     }
     costs
 }
 
 // The sort of node `i`, for the few roots and bodies.
-pub fn sort_at(table: &[[u8; 8]; 27], file: &[u8], nodes: book::Section, i: usize) -> u8
-    requires { Laid file.now × (nodes ≡ section file.now 3) × (i < count file.now 3) × (table.now ≡ kinds_table) }
+pub fn sort_at(file: &[u8], nodes: book::Section, i: usize) -> u8
+    requires { Laid file.now × (nodes ≡ section file.now 3) × (i < count file.now 3) }
     ensures { result ≡ sort_of (node_at (decode file.now) i).kind }
 {
     let start = nodes.start;
-    let row = row_of(table, file[start + 16 * i]);
+    let row = row_of(file[start + 16 * i]);
     row.sort
 }

@@ -14,7 +14,7 @@ use Rattle.book.specs.Layout.{label_section, decode}
 use Rattle.book.specs.Refusals.{no_label, label_fits, bad_label, Laid, verdict}
 use Rattle.book.specs.Start.{remembered}
 use Rattle.book.specs.declared.Section.{Section}
-use Rattle.book.specs.declared.Verdict.TheVariants.{Accepted}
+use Rattle.std.specs.Prelude.{Ok}
 use Rattle.book.proofs.Accepted.{accepted, placed, labels_inside}
 use Rattle.book.proofs.Chains.{both}
 use Rattle.book.proofs.Decoded.{count_labels, label_read}
@@ -29,7 +29,7 @@ pub record Reading (s : List ℕ) (start i : ℕ) : Type 0 where
   pub inside : start + (label_section s).count * 66 ≤ length s
   pub upto : i ≤ (label_section s).count
 
-module _ (s : List ℕ) (v : verdict s ≡ Accepted) where
+module _ (s : List ℕ) (v : verdict s ≡ Ok tt) where
   pub laid_out : Laid s
   laid_out = record { length_ok = (accepted s v).length_ok; sections_ok = (accepted s v).sections_ok }
 

@@ -5,7 +5,7 @@ ghost use Rattle.std.specs.Prelude.{◌≡◌, ◌+◌, ◌≤◌, ◌<◌, leng
 ghost use Rattle.labels.specs.Labels.{is_own};
 ghost use Rattle.book.specs.Records.{label_of, labels_format};
 ghost use Rattle.book.specs.Layout.{label_section, decode};
-ghost use Rattle.book.specs.Refusals.{first, Laid, bad_label};
+ghost use Rattle.book.specs.Refusals.{first_bad, Laid, bad_label};
 
 // The place of the record at `at`.
 pub fn place_at(file: &[u8], at: usize) -> usize
@@ -21,10 +21,8 @@ pub fn label_at(file: &[u8], at: usize) -> [u64; 8]
     ensures { result ≡ label_of (labels_format.read file.now at) }
 {
     let mut label = [0u64; 8];
-    let mut word: usize = 0;
-    while word < 8 {
+    for word in 0..8 {
         label[word] = numbers::u64_at(file, at + 2 + 8 * word);
-        word += 1;
     }
     label
 }
@@ -34,40 +32,36 @@ fn own_alone(file: &[u8], at: usize, place: usize) -> bool
     requires { (at + 66 ≤ length file.now) × (place < 512) }
     ensures { result ≡ is_own place (label_of (labels_format.read file.now at)) }
 {
-    let mut same: usize = 0;
-    while same < 8 {
+    for same in 0..8 {
         if numbers::u64_at(file, at + 2 + 8 * same) != labels::own_word(place, same) {
             return false;
         }
-        same += 1;
     }
     true
 }
 
-// Refusal 32: the first bad label record, or the number of them; `least` is the least place that the next record may have.
-pub fn first_bad_label(file: &[u8]) -> usize
+// Refusal 32: the first bad label record, if there is one; `least` is the least place that the next record may have.
+pub fn first_bad_label(file: &[u8]) -> Option<usize>
     requires { Laid file.now }
-    ensures { result ≡ first (bad_label (decode file.now).labels) (label_section file.now).count }
+    ensures { result ≡ first_bad (bad_label (decode file.now).labels) (label_section file.now).count }
 {
     let labels = book::label_section(file);
     let start = labels.start;
     let count = labels.count;
     let mut least: usize = 0;
-    let mut label: usize = 0;
-    while label < count {
+    for label in 0..count {
         let at = start + label * 66;
         let place = place_at(file, at);
         if 511 < place {
-            return label;
+            return Some(label);
         }
         if place < least {
-            return label;
+            return Some(label);
         }
         if own_alone(file, at, place) {
-            return label;
+            return Some(label);
         }
         least = place + 1;
-        label += 1;
     }
-    count
+    None
 }

@@ -8,7 +8,7 @@ use native.Mathlib.Nat.{not-suc-le-zero, le_of_suc-le-suc, eq-or-lt_of_le}
 use native.Mathlib.Numerals.{add-one}
 use native.Mathlib.Omega.{arith}
 use lib.Dec.{eqb}
-use lib.ListN.{length, take, drop, drop_of_length-le, set, length-append, length-take, length-drop, take-append-drop, replicate-append-replicate, length-replicate, get_or, get_or-replicate}
+use lib.ListN.{length, take, drop, drop_of_length-le, set, length-append, length-take, length-drop, take-append-drop, replicate-append-replicate, get_or, get_or-replicate}
 use lib.Seq.{get_or-take, get_or-drop, get_or-set_same, get_or-set_other, take_at, take_all, take-append-le, drop_at, drop-append-le, set-append_left, take-set-le, drop-set-add}
 use borrow.Author.Tests.{eq-eqb, ne_eqb}
 use Rattle.places.specs.Sets.{empty, single}
@@ -64,14 +64,6 @@ length_own n = length_by (single 8) (length_single 8) n
 set_behind : (l : List ℕ) (m i v : ℕ) → set l (m + i) v ≡ take m l ++ set (drop m l) i v
 set_behind l m i v =
     sym (take-append-drop m (set l (m + i) v)) ∙ ap₂ (λ (x y : List ℕ). x ++ y) (take-set-le m l (m + i) v (omega arith)) (drop-set-add m l i v)
-
-pub length_none : (n : ℕ) → length (no_labels n) ≡ 8 * n
-unfolding no_labels
-length_none n = length-replicate (8 * n) 0
-
-pub none_at : (n i : ℕ) → i < 8 * n → get_or (no_labels n) i 0 ≡ 0
-unfolding no_labels
-none_at n i h = get_or-replicate (8 * n) i 0 0 h
 
 none_first : (m : ℕ) → no_labels (suc m) ≡ empty 8 ++ no_labels m
 unfolding no_labels

@@ -4,8 +4,6 @@
 
 ghost use Rattle.std.specs.Prelude.{◌+◌, ◌≤◌, length};
 
-use counting::LowestMember;
-
 // The bytes read: the longest book has 60,000; one more is read, so that a longer input is refused and not cut.
 const FILE: usize = 60001;
 
@@ -49,15 +47,13 @@ fn print_out(user: usize, bits: u32) {
     io::write_all(1, b"\n");
 }
 
-// Prints the line of the trace record at `at`.
-fn print_record(trace: &[u8], at: usize)
-    requires { at + 8 ≤ length trace.now }
-{
-    let kind = numbers::byte_at(trace, at);
-    let user = numbers::byte_at(trace, at + 1);
-    let region = numbers::byte_at(trace, at + 2);
+// Prints the line of a trace record.
+fn print_record(record: &[u8; 8]) {
+    let kind = record[0];
+    let user = record[1] as usize;
+    let region = record[2] as usize;
     match kind {
-        1 => print_out(user, numbers::u32_at(trace, at + 4)),
+        1 => print_out(user, numbers::u32_at(record, 4)),
         2 => print_change(b"grant read", user, region),
         3 => print_change(b"grant write", user, region),
         4 => print_change(b"revoke read", user, region),
@@ -70,20 +66,19 @@ fn print_records(trace: &[u8], bytes: usize) {
     if trace.len() < bytes {
         return;
     }
-    let mut at: usize = 0;
-    while 8 <= bytes - at {
-        print_record(trace, at);
-        at += 8;
+    let (records, _) = trace[..bytes].as_chunks::<8>();
+    for record in records {
+        print_record(record);
     }
 }
 
 // Prints the last line: how the run ended, and its numbers.
 fn print_end(answer: monitor::Answer) {
     match answer {
-        monitor::Answer::Refused(number, index) => {
+        monitor::Answer::Refused(refusal) => {
             io::write_all(1, b"refused");
-            print_number(number as u64);
-            print_number(index as u64);
+            print_number(refusal.reason.number() as u64);
+            print_number(refusal.index as u64);
         }
         monitor::Answer::Stopped(number, node, cost, _) => {
             io::write_all(1, b"stop");
@@ -107,15 +102,15 @@ fn print_run(trace: &[u8], answer: monitor::Answer) {
 }
 
 // Prints the line of an explanation: the table, the owner and the line of its place, and how many places there are.
-fn print_explanation(place: LowestMember, count: u32) {
+fn print_explanation(place: Option<usize>, count: u32) {
     io::write_all(1, b"place");
     match place {
-        LowestMember::Place(number) => {
+        Some(number) => {
             print_number((number / 64) as u64);
             print_number((number / 8 % 8) as u64);
             print_number((number % 8) as u64);
         }
-        LowestMember::None => {
+        None => {
             io::write_all(1, b" none");
         }
     }

@@ -10,7 +10,7 @@ use borrow.Author.Tests.{leb-true, eqb-true, not-false}
 use Rattle.book.specs.Records.{CellRecord, place_of, cells_format}
 use Rattle.book.specs.Layout.{count, section, decode}
 use Rattle.book.specs.Refusals.{cell_fits, no_cell, bad_cell, verdict}
-use Rattle.book.specs.declared.Verdict.TheVariants.{Accepted}
+use Rattle.std.specs.Prelude.{Ok}
 use Rattle.book.proofs.Chains.{both}
 use Rattle.book.proofs.Decoded.{cell_read}
 use Rattle.book.proofs.Accepted.{accepted}
@@ -37,7 +37,7 @@ cell_key {c} e =
 pub place_lt : {c : CellRecord} → Key c → place_of c < 512
 place_lt k = omega arith
 
-module _ (s : List ℕ) (v : verdict s ≡ Accepted) where
+module _ (s : List ℕ) (v : verdict s ≡ Ok tt) where
   -- the place of a record is one of the 512
   pub place_inside : (i : ℕ) → i < count s 0 → place_of (cells_format.read s ((section s 0).start + i * 8)) < 512
   unfolding bad_cell

@@ -10,7 +10,7 @@ use Rattle.book.specs.Layout.{label_section, decode}
 use Rattle.book.specs.Refusals.{verdict}
 use Rattle.book.specs.Start.{start_labels}
 use Rattle.book.specs.declared.Section.{Section}
-use Rattle.book.specs.declared.Verdict.TheVariants.{Accepted}
+use Rattle.std.specs.Prelude.{Ok}
 use Rattle.book.proofs.Remembered.{length_remembered}
 use Rattle.label_records.proofs.Turns.{remembered_from, Reading, reading_begins, reading_turn, turn_place, remembered_none, remembered_turn, remembered_all}
 
@@ -22,7 +22,7 @@ pub record Labelling (s : List ℕ) (start : ℕ) (labels : List ℕ) (label : �
 pub labelling_length : {s labels : List ℕ} {start label : ℕ} → Labelling s start labels label → length labels ≡ 4096
 labelling_length {s} {labels} {start} {label} l = ap length l.labels_are ∙ length_by (remembered_from s label) (length_remembered _) 512
 
-module _ (s : List ℕ) (v : verdict s ≡ Accepted) where
+module _ (s : List ℕ) (v : verdict s ≡ Ok tt) where
   pub labelling_none : {x : Section} → x ≡ label_section s → {labels : List ℕ} → labels ≡ own_labels 512 → Labelling s x.start labels x.count
   labelling_none e o = record { reading = reading_begins s v e; labels_are = o ∙ by_cong _ _ 512 (λ p h. remembered_none s v e p) }
 

@@ -9,7 +9,7 @@ use native.Mathlib.Omega.{arith}
 use lib.Bits.{bit_or}
 use lib.Dec.{eqb}
 use lib.IntN.{ℤ, pos}
-use lib.ListN.{length, get_or, drop, set, replicate, length-set, get_or-replicate, drop_of_length-le}
+use lib.ListN.{length, get_or, drop, set, replicate, length-set, get_or-replicate, length-replicate, drop_of_length-le}
 use lib.Seq.{drop-cons, ext_get_or, get_or-set_same, get_or-set_other}
 use borrow.Author.Tests.{ne_eqb}
 use Rattle.places.specs.Sets.{set_of, single, union}
@@ -20,11 +20,11 @@ use Rattle.book.specs.Records.{CellRecord, place_of, cells_format}
 use Rattle.book.specs.Layout.{count, section, decode}
 use Rattle.book.specs.Refusals.{no_cell, verdict}
 use Rattle.book.specs.declared.Section.{Section}
-use Rattle.book.specs.declared.Verdict.TheVariants.{Accepted}
+use Rattle.std.specs.Prelude.{Ok}
 use Rattle.book.proofs.Decoded.{count_cells, cell_read}
 use Rattle.book.specs.Start.{tabulate, amount_at, or_zero, is_there, start_amounts, start_presence}
 use Rattle.book.proofs.Accepted.{placed}
-use Rattle.book.proofs.Tabulate.{length_tabulate, tabulate_cong, set_tabulate}
+use Rattle.book.proofs.Tabulate.{length_tabulate, tabulate_at, tabulate_cong, set_tabulate}
 
 -- the amounts and the presence words of some records
 abbrev pub amounts_of : List CellRecord → List ℤ
@@ -34,9 +34,13 @@ abbrev pub presence_of : List CellRecord → List ℕ
 presence_of cs = set_of 8 (λ p. is_there (amount_at cs p))
 
 -- of no records
-amounts_none : tabulate (λ p. pos 0) 512 ≡ amounts_of []
+amounts_none : replicate 512 (pos 0) ≡ amounts_of []
 unfolding amount_at
-amounts_none = refl
+amounts_none =
+    ext_get_or (pos 0) (replicate 512 (pos 0)) (tabulate (λ p. pos 0) 512) (length-replicate 512 (pos 0) ∙ sym (length_tabulate (λ p. pos 0) 512))
+    (λ i h.
+    let below : i < 512 = omega (arith, length-replicate 512 (pos 0)) in
+    get_or-replicate 512 i (pos 0) (pos 0) below ∙ sym (tabulate_at (λ p. pos 0) 512 i (pos 0) below))
 
 presence_none : replicate 8 0 ≡ presence_of []
 unfolding amount_at
@@ -103,8 +107,8 @@ with_union words p h e =
         rw (union_word (single 8 p) words w, single_word 8 p (omega arith), get_or-set_other {A = ℕ} (replicate 8 0) (p / 64) w (2 ^ (p % 64)) 0 q, get_or-replicate {A = ℕ} 8 w 0 0 l)
         (get_or-set_other words (p / 64) w _ 0 q)
 
-module _ (s : List ℕ) (v : verdict s ≡ Accepted) where
-  pub loading_none : {x : Section} → x ≡ section s 0 → {amounts : List ℤ} → amounts ≡ tabulate (λ p. pos 0) 512 → Loading s x.start amounts (replicate 8 0) x.count
+module _ (s : List ℕ) (v : verdict s ≡ Ok tt) where
+  pub loading_none : {x : Section} → x ≡ section s 0 → {amounts : List ℤ} → amounts ≡ replicate 512 (pos 0) → Loading s x.start amounts (replicate 8 0) x.count
   loading_none {x} e {amounts} a =
       let z = placed s v in
       let none : drop (count s 0) (decode s).cells ≡ [] = drop_of_length-le (decode s).cells {i = count s 0} (omega (arith, count_cells s)) in

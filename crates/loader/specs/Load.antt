@@ -1,15 +1,14 @@
 -- Loading: from all that the call is given to all that it leaves.
-use Rattle.std.specs.Prelude.{◌≡◌, List, Bool, ◌&&◌, cond, ℕ, eqb, ℤ, length}
+use Rattle.std.specs.Prelude.{◌≡◌, List, Bool, ◌&&◌, cond, ℕ, eqb, ℤ, length, Ok, Err}
 use Rattle.book.specs.Layout.{decode}
-use Rattle.book.specs.Refusals.{verdict_values, and_then, need, verdict}
+use Rattle.book.specs.Refusals.{verdict_values, and_then, need, verdict, Verdict}
 use Rattle.book.specs.Start.{start_amounts, start_presence, start_labels}
-use Rattle.book.specs.declared.Verdict.{Verdict}
-use Rattle.book.specs.declared.Verdict.TheVariants.{Accepted, Refused}
+use Rattle.book.specs.declared.Reason.TheVariants as reasons
 
 -- what a call leaves: the new where the verdict accepts, and else what was there; nothing lent changes on a refusal
 abbrev pub where_accepted : {A : Type 0} → Verdict → A → A → A
-where_accepted Accepted new old = new
-where_accepted (Refused number index) new old = old
+where_accepted (Ok _) new old = new
+where_accepted (Err refusal) new old = old
 
 -- 1: 512 amounts, 8 presence words, 4,096 label words
 abbrev pub lent_fits : List ℤ → List ℕ → List ℕ → Bool
@@ -17,7 +16,7 @@ lent_fits amounts presence labels = eqb (length amounts) 512 && (eqb (length pre
 
 -- refusal 1, then 2 to 10 and 32
 unfoldable pub load_verdict : List ℕ → List ℤ → List ℕ → List ℕ → Verdict
-load_verdict file amounts presence labels = and_then (need 1 (lent_fits amounts presence labels)) (verdict file)
+load_verdict file amounts presence labels = and_then (need reasons.Lent (lent_fits amounts presence labels)) (verdict file)
 
 -- the answer, and the lent memory afterwards
 pub record Loaded : Type 0 where

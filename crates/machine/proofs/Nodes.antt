@@ -21,7 +21,8 @@ use Rattle.monitor.specs.Syntax.{Cmd, cmd_of}
 use Rattle.monitor.specs.Rules.{Mode, monitored, standing, eval, exec}
 use Rattle.monitor.specs.Rules as rules
 use Rattle.machine.specs.Script.{prices_start, held_count, script_of, Sound, Runnable, Node}
-use Rattle.machine.specs.Promises.{env, Commands, Stands, Who}
+use Rattle.machine.specs.declared.Who.{Who}
+use Rattle.machine.specs.Promises.{env, Commands, Stands}
 
 -- what a node does, once it is known which command it is: taken back where it stops, or not
 module _ (code : List ℕ) (ctx : Label) (who : Who) (n : ℕ) {y : Cmd} (e : cmd_of (node_at (script_of code) n) ≡ y) (fuel : ℕ) where
@@ -327,3 +328,11 @@ module _ (s : Book) (v : Sound s) (n : ℕ) (h : n < length s.nodes) where
     pub raise_a : x.a < length s.regions
     unfolding fields_of field_fits
     raise_a = as_region x.a (checked_as 26 e).a
+
+-- a node of a sort: its record in the script, and its kind as it is read
+module _ {code : List ℕ} {sort n : ℕ} (runs : Runnable code) (node : Node sort (script_of code) n) where
+  pub read : Read code (16 * n) (node_at (script_of code) n)
+  read = read_at code runs n node.inside
+
+  pub kind_inside : byte code (16 * n) < 27
+  kind_inside = rw read.kind (kind_below (script_of code) runs.sound n node.inside)

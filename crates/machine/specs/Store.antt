@@ -1,150 +1,137 @@
--- The arrays and slices of a run, as the state of the rules.
-use Rattle.std.specs.Prelude.{◌≡◌, List, [], ◌++◌, Bool, cond, ℕ, ◌+◌, ◌-◌, ◌*◌, ◌/◌, ◌%◌, ◌^◌, ◌≤◌, ◌<◌, eqb, ltb, ℤ, pos, length, get_or, take, drop}
+-- The structs and slices of a run, as the state of the rules.
+use Rattle.std.specs.Prelude.{◌≡◌, List, [], ◌++◌, Bool, false, cond, not, ℕ, ◌+◌, ◌-◌, ◌*◌, ◌/◌, eqb, ℤ, pos, length, get_or, take, drop, replicate}
 use Rattle.std.proofs.Math.Option.{Option, none, some}
-use Rattle.places.specs.Sets.{has}
-use Rattle.book.specs.Bytes.{signed32}
+use Rattle.places.specs.Sets.{has, empty}
 use Rattle.book.specs.Start.{public_set}
 use Rattle.monitor.specs.Labelled.{Label, Lab}
-use Rattle.monitor.specs.Run.{Cell, Rights, State, Rec}
-use Rattle.monitor.specs.Call.{trace_bytes}
-use Rattle.machine.specs.Script.{script_of, Runnable}
+use Rattle.monitor.specs.Run.{Cell, Rights, State, Rec, Compared}
+use Rattle.monitor.specs.Call.{rows, trace_bytes}
+use Rattle.machine.specs.Script.{script_of}
+use Rattle.machine.specs.declared.lent.Right.{Right}
+use Rattle.machine.specs.declared.lent.Right.TheVariants.{Read, Write}
+use Rattle.machine.specs.declared.lent.Sets.{Sets}
+use Rattle.machine.specs.declared.lent.Run.{Run}
+use Rattle.machine.specs.declared.lent.Variables.{Variables}
+use Rattle.machine.specs.declared.lent.Store as lent
 
--- ---- the sets: each a row
+-- ---- the sets
 
+-- the label at i
 abbrev pub row_at : List (List ℕ) → ℕ → Label
-row_at sets i = get_or sets i []
+row_at labels i = get_or labels i []
 
--- the places that are present, and those that are public
-abbrev pub present_row : ℕ
-present_row = 0
+-- no place, no right and no label, and no posting under way
+abbrev pub empty_sets : Sets
+empty_sets = record {
+  present = empty 8;
+  public = empty 8;
+  read = replicate 8 (empty 8);
+  write = replicate 8 (empty 8);
+  labels = replicate 512 (empty 8);
+  tested = empty 8;
+  bound = empty 8;
+  posting = record { under_way = false; touched = empty 8; present = empty 8; amounts = replicate 512 (pos 0); labels = replicate 512 (empty 8) };
+}
 
-abbrev pub public_row : ℕ
-public_row = 1
+-- a right's number in a book
+unfoldable pub right_number : Right → ℕ
+right_number Read = 1
+right_number Write = 2
 
--- the first of the eight users' read sets, and of their write sets
-abbrev pub read_row : ℕ
-read_row = 2
+-- the sets of the eight users for a right
+unfoldable pub users_of : Sets → Right → List (List ℕ)
+users_of sets Read = sets.read
+users_of sets Write = sets.write
 
-abbrev pub write_row : ℕ
-write_row = read_row + 8
+-- sets with these for those
+unfoldable pub with_users : Sets → Right → List (List ℕ) → Sets
+with_users sets Read users = record {
+  present = sets.present;
+  public = sets.public;
+  read = users;
+  write = sets.write;
+  labels = sets.labels;
+  tested = sets.tested;
+  bound = sets.bound;
+  posting = sets.posting;
+}
+with_users sets Write users = record {
+  present = sets.present;
+  public = sets.public;
+  read = sets.read;
+  write = users;
+  labels = sets.labels;
+  tested = sets.tested;
+  bound = sets.bound;
+  posting = sets.posting;
+}
 
--- of a stop about labels, the set that was tested and the set that it had to lie within
-abbrev pub tested_row : ℕ
-tested_row = write_row + 8
-
-abbrev pub bound_row : ℕ
-bound_row = tested_row + 1
-
--- whether a program's own posting is under way, from its key to the end of its triggers: then the row begins with a word other than 0
-abbrev pub posting_row : ℕ
-posting_row = bound_row + 1
-
--- the places whose cells that posting has touched
-abbrev pub touched_row : ℕ
-touched_row = posting_row + 1
-
--- the places that were present when it began
-abbrev pub kept_present_row : ℕ
-kept_present_row = touched_row + 1
-
--- the amounts of the cells that it has touched, as they were: 32 bits in a word, eight words in a row
-abbrev pub kept_amounts_row : ℕ
-kept_amounts_row = kept_present_row + 1
-
--- their labels, as they were
-abbrev pub kept_labels_row : ℕ
-kept_labels_row = kept_amounts_row + 64
-
--- the label of the first cell
-abbrev pub label_row : ℕ
-label_row = kept_labels_row + 512
-
--- how many there are
-abbrev pub set_rows : ℕ
-set_rows = label_row + 512
-
--- the sets of the eight users from row `first` on; there are no other users
-unfoldable pub users_rows : List (List ℕ) → ℕ → ℕ → Label
-users_rows sets first user = cond (ltb user 8) (row_at sets (first + user)) []
-
--- sets' has these sets of the eight users from row `first` on, and else the rows of `sets`
-pub record Replaces (sets : List (List ℕ)) (first : ℕ) (users : ℕ → Label) (sets' : List (List ℕ)) : Type 0 where
-  pub new : (user : ℕ) → user < 8 → row_at sets' (first + user) ≡ users user
-  pub before : (i : ℕ) → i < first → row_at sets' i ≡ row_at sets i
-  pub after : (i : ℕ) → first + 8 ≤ i → row_at sets' i ≡ row_at sets i
+-- sets with the two that a test of labels compared, for a stop
+abbrev pub with_compared : Sets → Compared → Sets
+with_compared sets c = record {
+  present = sets.present;
+  public = sets.public;
+  read = sets.read;
+  write = sets.write;
+  labels = sets.labels;
+  tested = c.tested;
+  bound = c.bound;
+  posting = sets.posting;
+}
 
 -- the cells: 512 amounts, and of the sets the present places and the labels
-unfoldable pub cells_held : List ℤ → List (List ℕ) → ℕ → Lab Cell
+unfoldable pub cells_held : List ℤ → Sets → ℕ → Lab Cell
 cells_held amounts sets q =
-    record { val = record { present = has (row_at sets present_row) q; amount = get_or amounts q (pos 0) }; lab = row_at sets (label_row + q) }
+    record { val = record { present = has sets.present q; amount = get_or amounts q (pos 0) }; lab = row_at sets.labels q }
 
 -- whether no posting of a program is under way
-unfoldable pub idle : List (List ℕ) → Bool
-idle sets = eqb (get_or (row_at sets posting_row) 0 0) 0
-
--- the amount that is kept of the cell at q
-unfoldable pub kept_amount : List (List ℕ) → ℕ → ℤ
-kept_amount sets q = signed32 (get_or (row_at sets (kept_amounts_row + q / 8)) (q % 8) 0 % 2 ^ 32)
+abbrev pub idle : Sets → Bool
+idle sets = not sets.posting.under_way
 
 -- The cells as they were when the posting that is under way began: a cell that it has touched as it was kept, any other as it is.
 -- Presence is kept of all cells at once.
-unfoldable pub began : List ℤ → List (List ℕ) → ℕ → Lab Cell
+unfoldable pub began : List ℤ → Sets → ℕ → Lab Cell
 began amounts sets q =
-    let touched = has (row_at sets touched_row) q in
+    let kept = sets.posting in
+    let touched = has kept.touched q in
     record {
-      val = record { present = has (row_at sets kept_present_row) q; amount = cond touched (kept_amount sets q) (get_or amounts q (pos 0)) };
-      lab = cond touched (row_at sets (kept_labels_row + q)) (row_at sets (label_row + q));
+      val = record { present = has kept.present q; amount = cond touched (get_or kept.amounts q (pos 0)) (get_or amounts q (pos 0)) };
+      lab = cond touched (row_at kept.labels q) (row_at sets.labels q);
     }
 
 -- to what a stop would take the cells back: none while no posting is under way
-unfoldable pub undo_of : List ℤ → List (List ℕ) → Option (ℕ → Lab Cell)
+unfoldable pub undo_of : List ℤ → Sets → Option (ℕ → Lab Cell)
 undo_of amounts sets = cond (idle sets) none (some (began amounts sets))
 
-abbrev pub rights_in : List (List ℕ) → Rights
-rights_in sets = record { read = users_rows sets read_row; write = users_rows sets write_row }
+abbrev pub rights_in : Sets → Rights
+rights_in sets = record { read = rows sets.read; write = rows sets.write }
 
 -- other sets of the same state: the cells, the rights and the public set
-pub record SameState (amounts : List ℤ) (sets sets' : List (List ℕ)) : Type 0 where
+pub record SameState (amounts : List ℤ) (sets sets' : Sets) : Type 0 where
   pub cells_same : cells_held amounts sets' ≡ cells_held amounts sets
   pub rights_same : rights_in sets' ≡ rights_in sets
-  pub public_same : row_at sets' public_row ≡ row_at sets public_row
+  pub public_same : sets'.public ≡ sets.public
 
--- the sixteen variables: their values, and a row for each label
-unfoldable pub vars_of : List ℤ → List (List ℕ) → ℕ → Lab ℤ
-vars_of vars tags p = record { val = get_or vars p (pos 0); lab = row_at tags p }
-
--- ---- the numbers of a run
-
--- what is left of the budget
-abbrev pub left_of : List ℕ → ℕ
-left_of run = get_or run 0 0
-
--- the trace bytes written so far
-abbrev pub used_of : List ℕ → ℕ
-used_of run = get_or run 1 0
-
--- the number and the node of a stop
-abbrev pub number_of : List ℕ → ℕ
-number_of run = get_or run 2 0
-
-abbrev pub node_of : List ℕ → ℕ
-node_of run = get_or run 3 0
-
--- how many there are
-abbrev pub run_numbers : ℕ
-run_numbers = 4
+-- the sixteen variables
+unfoldable pub vars_of : Variables → ℕ → Lab ℤ
+vars_of vars p = record { val = get_or vars.values p (pos 0); lab = row_at vars.labels p }
 
 -- ---- all of them
 
--- all that a command may change but its variables
+-- all that a command may change but its variables, and the name of the loan that the trace is, which no command changes
 pub record Store : Type 0 where
   pub amounts : List ℤ
-  pub sets : List (List ℕ)
-  pub run : List ℕ
+  pub sets : Sets
+  pub run : Run
   pub trace : List ℕ
+  pub loan : ℕ
 
-abbrev pub store : List ℤ → List (List ℕ) → List ℕ → List ℕ → Store
-store amounts sets run trace = record { amounts = amounts; sets = sets; run = run; trace = trace }
+abbrev pub store : List ℤ → Sets → Run → List ℕ → ℕ → Store
+store amounts sets run trace loan = record { amounts = amounts; sets = sets; run = run; trace = trace; loan = loan }
+
+-- as it is lent
+abbrev pub store_of : lent.Store → Store
+store_of x = store x.amounts x.sets x.run x.trace.now x.trace.ghost_name
 
 -- the records for which a trace has room when `used` of its bytes are written
 abbrev pub room_in : List ℕ → ℕ → ℕ
@@ -155,8 +142,8 @@ state vars x = record {
   cells = cells_held x.amounts x.sets;
   vars = vars;
   rights = rights_in x.sets;
-  left = left_of x.run;
-  room = room_in x.trace (used_of x.run);
+  left = x.run.left;
+  room = room_in x.trace x.run.used;
 }
 
 -- the trace with these records from byte `used` on
@@ -167,9 +154,6 @@ with_records trace used records = take used trace ++ trace_bytes records ++ drop
 abbrev pub cell : ℕ → ℤ → Cell
 cell event amount = record { present = eqb event 1; amount = amount }
 
--- what every command asks of the memory that it is lent
-pub record Lent (code : List ℕ) (sets : List (List ℕ)) (run trace : List ℕ) : Type 0 where
-  pub runnable : Runnable code
-  pub public_is : row_at sets public_row ≡ public_set (script_of code)
-  pub short : length trace ≤ 65536
-  pub room : used_of run ≤ length trace
+-- what every command asks of the sets that it is lent: the public set is that of the script
+abbrev pub Public : List ℕ → Sets → Type 0
+Public code sets = sets.public ≡ public_set (script_of code)

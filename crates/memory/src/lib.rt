@@ -3,24 +3,10 @@
 
 ghost use Rattle.std.specs.Prelude.{◌≡◌, length};
 
-pub fn copy_amounts(from: &[i32], to: &mut [i32])
+// Copies `from` over `to`: std's `copy_from_slice`, of whose clauses callers read only that the two are then the same.
+pub fn copy<T: Copy>(from: &[T], to: &mut [T])
     requires { length to.old ≡ length from.now }
     ensures { to.new ≡ from.now }
 {
-    let mut place: usize = 0;
-    while place < from.len() {
-        to[place] = from[place];
-        place += 1;
-    }
-}
-
-pub fn copy_words(from: &[u64], to: &mut [u64])
-    requires { length to.old ≡ length from.now }
-    ensures { to.new ≡ from.now }
-{
-    let mut word: usize = 0;
-    while word < from.len() {
-        to[word] = from[word];
-        word += 1;
-    }
+    to.copy_from_slice(from)
 }

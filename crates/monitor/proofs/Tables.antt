@@ -12,11 +12,10 @@ use Rattle.book.specs.Records.{records, section_bytes, cells_format, regions_for
 use Rattle.book.specs.Layout.{in_order, six_bounds, decode}
 use Rattle.book.specs.Kinds.{cost_of, sort_of, fields_of}
 use Rattle.book.specs.Refusals as refusals
-use Rattle.book.specs.Refusals.{and_then, first, blame, length_fits, mark_fits, sections_fit, cell_fits, rises, bad_cell, region_fits, bad_region, right_fits, bad_right, field_fits, is_zero, node_fits, is_command, program_fits, bad_program, forbidden, reaches, trigger_fits, bad_trigger, label_fits, bad_label, book_verdict, verdict}
+use Rattle.book.specs.Refusals.{and_then, first, blame, length_fits, mark_fits, sections_fit, cell_fits, rises, bad_cell, region_fits, bad_region, right_fits, bad_right, field_fits, is_zero, node_fits, is_command, program_fits, bad_program, forbidden, reaches, trigger_fits, bad_trigger, label_fits, bad_label, book_verdict, verdict, Verdict}
 use Rattle.book.specs.Encode.{six_extents, distance_to_end, pairs, other_sections, tail_bytes, encode}
 use Rattle.book.specs.Start.{tabulate, amount_at, rights_hold, right_set}
-use Rattle.book.specs.declared.Verdict.{Verdict}
-use Rattle.book.specs.declared.Verdict.TheVariants.{Accepted, Refused}
+use Rattle.std.specs.Prelude.{Ok, Err}
 use Rattle.monitor.specs.Labelled.{Lab, lit, lift, lift2, via, under}
 use Rattle.monitor.specs.Run.{Cell, Out, after, next, each, when, guard, need, update, pay, set_var, set_cell, tell, sixteen, restore, own, taken_back, undoing}
 use Rattle.monitor.specs.Syntax.{exp_of, cmd_of}
@@ -46,8 +45,8 @@ same_runs labels = ap (run_from labels) (fun_ext start_is)
 -- ---- the tables with a run of either kind
 
 answered_by : Running → Book → ℕ → Memory → Verdict → Result
-answered_by running b budget m (Refused number index) = record { answer = answers.Refused number index; memory = m }
-answered_by running b budget m Accepted = result_of budget m (running b budget (length m.trace / 8))
+answered_by running b budget m (Err refusal) = record { answer = answers.Refused refusal; memory = m }
+answered_by running b budget m (Ok _) = result_of budget m (running b budget (length m.trace / 8))
 
 called_by : Running → ℤ → ℕ → Row (List ℕ) → Shown
 called_by running z n row =
@@ -64,8 +63,8 @@ called_same z n row =
     ap shown (same m (call_verdict row.of row.budget m)) ∙ ap (λ (running : Running). called_by running z n row) (same_runs true)
   where
     same : (m : Memory) (v : Verdict) → answered true row.of row.budget m v ≡ answered_by (run_book true) (decode row.of) row.budget m v
-    same m (Refused number index) = refl
-    same m Accepted = refl
+    same m (Err refusal) = refl
+    same m (Ok _) = refl
 
 ran_same : (labels : Bool) (z : ℤ) (n : ℕ) (row : Row Book) → ran labels z n row ≡ ran_by (run_quick labels) z n row
 unfolding ran book_answered ran_by answered_by
@@ -73,8 +72,8 @@ ran_same labels z n row =
     ap shown (same (lent z n row.trace) (book_verdict row.of)) ∙ ap (λ (running : Running). ran_by running z n row) (same_runs labels)
   where
     same : (m : Memory) (v : Verdict) → book_answered labels row.of row.budget m v ≡ answered_by (run_book labels) row.of row.budget m v
-    same m (Refused number index) = refl
-    same m Accepted = refl
+    same m (Err refusal) = refl
+    same m (Ok _) = refl
 
 -- the cells at the end of a row's run
 cells_by : Running → Leaving → List (Lab Cell)

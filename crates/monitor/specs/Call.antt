@@ -1,20 +1,19 @@
 -- The whole call: from a file, a budget and lent memory to the answer and the memory at exit.
-use Rattle.std.specs.Prelude.{List, [], ◌∷◌, ◌++◌, Bool, true, ◌&&◌, ℕ, zero, suc, ◌-◌, ◌*◌, ◌/◌, eqb, leb, ℤ, pos, length, get_or, take, drop}
+use Rattle.std.specs.Prelude.{List, [], ◌∷◌, ◌++◌, Bool, true, ◌&&◌, ℕ, zero, suc, ◌-◌, ◌*◌, ◌/◌, eqb, leb, ℤ, pos, length, get_or, take, drop, Ok, Err}
 use Rattle.places.specs.Sets.{has, set_of}
 use Rattle.labels.specs.Labels.{label_at}
 use Rattle.book.specs.Bytes.{four, bits32}
 use Rattle.book.specs.Records.{Book}
 use Rattle.book.specs.Layout.{decode}
-use Rattle.book.specs.Refusals.{and_then, need, verdict}
+use Rattle.book.specs.Refusals.{number_of, and_then, need, verdict, Verdict}
 use Rattle.book.specs.Start.{tabulate, start_amounts, start_presence, start_labels, read_sets, write_sets}
-use Rattle.book.specs.declared.Verdict.{Verdict}
 use Rattle.monitor.specs.Labelled.{Label, Lab, lit}
 use Rattle.monitor.specs.Run.{Cell, Rights, State, Rec, said, changed, Out, done, stop, sixteen}
 use Rattle.monitor.specs.Rules.{run}
 use Rattle.monitor.specs.declared.Answer.{Answer}
 use Rattle.monitor.specs.declared.Answer.TheVariants.{Refused, Stopped, Finished}
 use Rattle.monitor.specs.declared.Values.{Values}
-use Rattle.book.specs.declared.Verdict.TheVariants as verdicts
+use Rattle.book.specs.declared.Reason.TheVariants as reasons
 
 -- lent memory
 pub record Memory : Type 0 where
@@ -30,7 +29,7 @@ pub record Result : Type 0 where
 
 -- the paper's number and values for each answer; a refusal has no cost and no trace bytes, and a finished run no node
 unfoldable pub values : Answer → Values
-values (Refused number index) = record { number = number; at = index; cost = 0; bytes = 0 }
+values (Refused refusal) = record { number = number_of refusal.reason; at = refusal.index; cost = 0; bytes = 0 }
 values (Stopped number node cost bytes) = record { number = number; at = node; cost = cost; bytes = bytes }
 values (Finished cost bytes) = record { number = 0; at = 0; cost = cost; bytes = bytes }
 
@@ -90,7 +89,7 @@ run_book labels b budget room = run (script b) (record { labels = labels; undoes
 -- refusal 1, then those of the file
 unfoldable pub call_verdict : List ℕ → ℕ → Memory → Verdict
 call_verdict file budget m =
-    and_then (need 1 (eqb (length m.amounts) 512 && (eqb (length m.presence) 8 && (eqb (length m.labels) 4096
+    and_then (need reasons.Lent (eqb (length m.amounts) 512 && (eqb (length m.presence) 8 && (eqb (length m.labels) 4096
     && (leb (length m.trace) 65536 && leb budget 1000000)))))
     (verdict file)
 
@@ -109,8 +108,8 @@ result_of budget m (stop t h s) = record { answer = Stopped h.number h.node (bud
 
 -- refused: nothing lent changes; else the run, with as many records as the trace has room for
 unfoldable pub answered : Bool → List ℕ → ℕ → Memory → Verdict → Result
-answered labels file budget m (verdicts.Refused number index) = record { answer = Refused number index; memory = m }
-answered labels file budget m verdicts.Accepted = result_of budget m (run_book labels (decode file) budget (length m.trace / 8))
+answered labels file budget m (Err refusal) = record { answer = Refused refusal; memory = m }
+answered labels file budget m (Ok _) = result_of budget m (run_book labels (decode file) budget (length m.trace / 8))
 
 unfoldable pub call : Bool → List ℕ → ℕ → Memory → Result
 call labels file budget m = answered labels file budget m (call_verdict file budget m)

@@ -1,10 +1,10 @@
 -- What each part of a call gives, at its limits: the clauses of Call.antt one by one.
-use Rattle.std.specs.Prelude.{◌≡◌, List, [], ◌∷◌, ◌++◌, map, Bool, true, false, ℕ, ◌^◌, pos, negsuc, get_or, take, drop, replicate}
+use Rattle.std.specs.Prelude.{◌≡◌, List, [], ◌∷◌, ◌++◌, map, Bool, true, false, ℕ, ◌^◌, pos, negsuc, get_or, take, drop, replicate, Ok, Err}
 use Rattle.book.specs.Records.{Book}
 use Rattle.book.specs.Encode.{encode}
 use Rattle.book.specs.Tables.{cell, table_region, public, may_write, constant, variable, sum, both, put, clear, out, raise, program, trigger, w_file}
-use Rattle.book.specs.declared.Verdict.{Verdict}
-use Rattle.book.specs.declared.Verdict.TheVariants as verdicts
+use Rattle.book.specs.Refusals.{Verdict, refusal_of}
+use Rattle.book.specs.declared.Reason.TheVariants as reasons
 use Rattle.monitor.specs.Labelled.{lit}
 use Rattle.monitor.specs.Run.{held, absent, said, changed, Out, done, stop}
 use Rattle.monitor.specs.Call
@@ -26,7 +26,7 @@ abbrev pub verdict_of : ℕ → Call.Memory → Verdict
 verdict_of budget m = Call.call_verdict w_file budget m
 
 abbrev pub refused_1 : Verdict
-refused_1 = verdicts.Refused 1 0
+refused_1 = Err (refusal_of reasons.Lent 0)
 
 -- variable 0 is raised by table 0, which user 1 may not read, and shown to him
 abbrev pub raising : Book
@@ -101,7 +101,7 @@ two_records = 1 ∷ 1 ∷ 0 ∷ 0 ∷ 5 ∷ 0 ∷ 0 ∷ 0 ∷ 2 ∷ 3 ∷ 1 ∷ 
 
 pub record CallClauses : Type 0 where
   -- the paper's numbers: of a refusal, a stop and a finished run
-  pub numbers : map Call.values (Refused 8 3 ∷ Stopped 27 7 19 24 ∷ Finished 39 16 ∷ [])
+  pub numbers : map Call.values (Refused (refusal_of reasons.Node 3) ∷ Stopped 27 7 19 24 ∷ Finished 39 16 ∷ [])
       ≡ record { number = 8; at = 3; cost = 0; bytes = 0 } ∷ record { number = 27; at = 7; cost = 19; bytes = 24 } ∷ record { number = 0; at = 0; cost = 39; bytes = 16 } ∷ []
   -- cells from lent memory: amount 1, bit 1 of presence word 0, and label words 8 to 15
   pub cells_lent : Call.cells_of (pos 5 ∷ negsuc 6 ∷ pos 7 ∷ []) (2 ∷ []) (10 ∷ 11 ∷ 12 ∷ 13 ∷ 14 ∷ 15 ∷ 16 ∷ 17 ∷ 20 ∷ 21 ∷ 22 ∷ 23 ∷ 24 ∷ 25 ∷ 26 ∷ 27 ∷ 30 ∷ []) 1
@@ -134,12 +134,12 @@ pub record CallClauses : Type 0 where
   pub runs_labelled : map (λ labels. ending (Call.run_book labels raising 77 9)) (true ∷ false ∷ [])
       ≡ halted [] 27 2 (eight 18446744073709551615) (eight 0) ∷ went (said 1 (pos 0) ∷ []) tt ∷ []
   -- 1: each lent length, one less and one more; trace and budget at their most and one more
-  pub lengths_fit : verdict_of 1000000 (lent 512 8 4096 0) ∷ verdict_of 0 (lent 512 8 4096 65536) ∷ [] ≡ verdicts.Accepted ∷ verdicts.Accepted ∷ []
+  pub lengths_fit : verdict_of 1000000 (lent 512 8 4096 0) ∷ verdict_of 0 (lent 512 8 4096 65536) ∷ [] ≡ Ok tt ∷ Ok tt ∷ []
   pub lengths_refused : map (verdict_of 100) (lent 511 8 4096 0 ∷ lent 513 8 4096 0 ∷ lent 512 7 4096 0 ∷ lent 512 9 4096 0 ∷ lent 512 8 4095 0 ∷ lent 512 8 4097 0 ∷ lent 512 8 4096 65537 ∷ [])
       ≡ replicate 7 refused_1
   pub budget_refused : verdict_of 1000001 (lent 512 8 4096 0) ≡ refused_1
   -- 1 comes before those of the file
-  pub lent_first : (Call.call_verdict [] 100 (lent 512 8 4096 0) ≡ verdicts.Refused 2 0) × (Call.call_verdict [] 1000001 (lent 512 8 4096 0) ≡ refused_1)
+  pub lent_first : (Call.call_verdict [] 100 (lent 512 8 4096 0) ≡ Err (refusal_of reasons.Length 0)) × (Call.call_verdict [] 1000001 (lent 512 8 4096 0) ≡ refused_1)
   -- memory after a run: the cells' amounts, presence and labels, and the records before the trace's other bytes
   pub trace_after : (Call.memory_after nineteen (said 1 (pos 5) ∷ changed 2 3 1 ∷ []) sample).trace ≡ two_records ++ (4 ∷ 4 ∷ 4 ∷ [])
   pub cells_after : (drop 509 (Call.memory_after nineteen [] sample).amounts ≡ pos 509 ∷ pos 510 ∷ pos 511 ∷ [])
@@ -150,9 +150,9 @@ pub record CallClauses : Type 0 where
   pub traces_left : map (λ o. take 9 (Call.result_of 100 nineteen o).memory.trace) (finished_run ∷ stopped_run ∷ [])
       ≡ (1 ∷ 1 ∷ 0 ∷ 0 ∷ 5 ∷ 0 ∷ 0 ∷ 0 ∷ 2 ∷ []) ∷ (1 ∷ 1 ∷ 0 ∷ 0 ∷ 5 ∷ 0 ∷ 0 ∷ 0 ∷ 4 ∷ []) ∷ []
   -- refused: lent memory as it was
-  pub refused_untouched : Call.answered true w_file 100 nineteen (verdicts.Refused 8 3) ≡ record { answer = Refused 8 3; memory = nineteen }
+  pub refused_untouched : Call.answered true w_file 100 nineteen (Err (refusal_of reasons.Node 3)) ≡ record { answer = Refused (refusal_of reasons.Node 3); memory = nineteen }
   -- fifteen trace bytes are room for one record, sixteen for two
-  pub room_of_trace : map (λ bytes. (Call.answered true telling_twice 100 (lent 512 8 4096 bytes) verdicts.Accepted).answer) (15 ∷ 16 ∷ [])
+  pub room_of_trace : map (λ bytes. (Call.answered true telling_twice 100 (lent 512 8 4096 bytes) (Ok tt)).answer) (15 ∷ 16 ∷ [])
       ≡ Stopped 30 1 5 8 ∷ Finished 5 16 ∷ []
   -- the records that the answer counts, and no more
   pub counted : map Call.trace_records

@@ -1,10 +1,10 @@
 -- What each part of an explanation gives, at its limits: the clauses of Explain.antt one by one.
-use Rattle.std.specs.Prelude.{◌≡◌, [], ◌∷◌, map, true, false, ℕ, ◌^◌, pos, replicate}
-use Rattle.std.proofs.Math.Option.{none, some}
+use Rattle.std.specs.Prelude.{◌≡◌, [], ◌∷◌, map, true, false, ℕ, ◌^◌, pos, replicate, Some, None, Err}
 use Rattle.book.specs.Records.{Book}
 use Rattle.book.specs.Encode.{encode}
 use Rattle.book.specs.Tables.{cell, table_region, may_write, constant, plus, sum, skip, assign, both, if, put, program, trigger, w_file}
-use Rattle.book.specs.declared.Verdict.TheVariants as verdicts
+use Rattle.book.specs.declared.Reason.TheVariants as reasons
+use Rattle.book.specs.Refusals.{refusal_of}
 use Rattle.monitor.specs.Labelled.{Label}
 use Rattle.monitor.specs.Run.{Out, stop}
 use Rattle.monitor.specs.Explain
@@ -27,7 +27,7 @@ abbrev pub stopping : ℕ → Out (Unit {0})
 stopping number = stop [] (record { number = number; node = 9; compared = sets 14 5 }) (having 93 0)
 
 abbrev pub named : ℕ → ℕ → Explain.Explanation
-named place count = record { place = some place; count = count }
+named place count = record { place = Some place; count = count }
 
 -- owner 2's amount decides whether cell (0,1,0) is put: 26
 abbrev pub hidden_put : Book
@@ -79,13 +79,13 @@ pub record ExplainClauses : Type 0 where
   pub last_places : map (λ word. Explain.reason (record { tested = in_last word; bound = eight 7 })) (1 ∷ 2 ^ 63 ∷ []) ≡ named 448 1 ∷ named 511 1 ∷ []
   -- every place, and none
   pub all_places : Explain.reason (record { tested = replicate 8 18446744073709551615; bound = eight 0 }) ≡ named 0 512
-  pub no_places : Explain.reason (sets 6 7) ≡ record { place = none; count = 0 }
+  pub no_places : Explain.reason (sets 6 7) ≡ record { place = None; count = 0 }
   -- stops 25, 26, 27 and 29 have a reason, whatever the sets of the others
   pub explained_stops : map (λ number. Explain.explanation (stopping number)) (25 ∷ 26 ∷ 27 ∷ 29 ∷ []) ≡ replicate 4 (named 1 2)
-  pub other_stops : map (λ number. Explain.explanation (stopping number)) (21 ∷ 22 ∷ 23 ∷ 24 ∷ 28 ∷ 30 ∷ 31 ∷ []) ≡ replicate 7 (record { place = none; count = 0 })
-  pub finished : Explain.explanation finished_run ≡ record { place = none; count = 0 }
+  pub other_stops : map (λ number. Explain.explanation (stopping number)) (21 ∷ 22 ∷ 23 ∷ 24 ∷ 28 ∷ 30 ∷ 31 ∷ []) ≡ replicate 7 (record { place = None; count = 0 })
+  pub finished : Explain.explanation finished_run ≡ record { place = None; count = 0 }
   -- a refused file has none
-  pub refused : Explain.explained w_file 100 (lent 512 8 4096 16) (verdicts.Refused 8 3) ≡ record { place = none; count = 0 }
+  pub refused : Explain.explained w_file 100 (lent 512 8 4096 16) (Err (refusal_of reasons.Node 3)) ≡ record { place = None; count = 0 }
   -- the whole call: 27 on a variable raised by table 0, which user 1 may not read; its number and node are the run's
   pub raised_call : ((Explain.explain_call (encode raising) 100 (lent 512 8 4096 16)).explanation ≡ named 0 64)
       × ((Explain.explain_call (encode raising) 100 (lent 512 8 4096 16)).result.answer ≡ Stopped 27 2 4 0)
@@ -97,9 +97,9 @@ pub record ExplainClauses : Type 0 where
       × ((Explain.explain_call (encode put_again) 100 (lent 512 8 4096 16)).result.answer ≡ Stopped 26 10 38 0)
   pub assign_after_call : ((Explain.explain_call (encode assign_after) 100 (lent 512 8 4096 16)).explanation ≡ named 16 1)
       × ((Explain.explain_call (encode assign_after) 100 (lent 512 8 4096 16)).result.answer ≡ Stopped 25 6 22 0)
-  pub refused_call : ((Explain.explain_call [] 100 (lent 512 8 4096 16)).explanation ≡ record { place = none; count = 0 })
-      × ((Explain.explain_call [] 100 (lent 512 8 4096 16)).result ≡ record { answer = Refused 2 0; memory = lent 512 8 4096 16 })
+  pub refused_call : ((Explain.explain_call [] 100 (lent 512 8 4096 16)).explanation ≡ record { place = None; count = 0 })
+      × ((Explain.explain_call [] 100 (lent 512 8 4096 16)).result ≡ record { answer = Refused (refusal_of reasons.Length 0); memory = lent 512 8 4096 16 })
   -- refused for its lent memory, the book that would stop with 27 is not explained
-  pub refused_lent : (Explain.explain_call (encode raising) 100 (lent 511 8 4096 16)).explanation ≡ record { place = none; count = 0 }
+  pub refused_lent : (Explain.explain_call (encode raising) 100 (lent 511 8 4096 16)).explanation ≡ record { place = None; count = 0 }
   -- book W: owner 2's eight lines
   pub w_call : (Explain.explain_call w_file 100000 (lent 512 8 4096 4096)).explanation ≡ named 16 8

@@ -1,5 +1,5 @@
 -- What each rule gives, at its limits: the clauses of Rules.antt one by one, with stand-ins for a node's children.
-use Rattle.std.specs.Prelude.{◌≡◌, List, [], ◌∷◌, map, Bool, true, false, not, cond, ℕ, ◌+◌, ◌%◌, ◌^◌, eqb, ℤ, pos, negsuc, replicate}
+use Rattle.std.specs.Prelude.{◌≡◌, List, [], ◌∷◌, map, Bool, true, false, not, cond, ℕ, ◌+◌, ◌%◌, ◌^◌, eqb, ℤ, pos, negsuc, replicate, Some, None}
 use Rattle.book.specs.Records.{NodeRecord}
 use Rattle.book.specs.Tables.{trigger}
 use Rattle.monitor.specs.Labelled.{Lab, lit}
@@ -8,7 +8,6 @@ use Rattle.monitor.specs.Rules
 use Rattle.monitor.specs.Syntax as syntax
 use Rattle.monitor.specs.Samples.{went, halted, ending, final, counts, labelled, eight, key_of, sample_cells, sample, having, small_book, giving, running, here, office}
 use Rattle.monitor.specs.RunClauses.{sets}
-use Rattle.monitor.specs.declared.Amount.TheVariants.{Exact, Nothing}
 
 -- ---- values for the clauses
 
@@ -133,21 +132,21 @@ pub record RuleClauses : Type 0 where
   pub seen_last : Rules.seen 1 (labelled last_cell 1) sample ≡ record { val = held (pos 127) ∷ []; lab = eight (1 + 2 ^ 127) }
   pub seen_first : Rules.seen 1 (labelled first_cell 2) sample ≡ record { val = held (pos 64) ∷ []; lab = eight (2 + 2 ^ 64) }
   -- count, sum, smallest, largest of the present cells; of absent cells, and of none at all
-  pub aggregates : map (λ kind. Rules.aggregate kind some_cells) (8 ∷ 9 ∷ 10 ∷ 11 ∷ []) ≡ Exact (pos 4) ∷ Exact (pos 11) ∷ Exact (negsuc 4) ∷ Exact (pos 9) ∷ []
-  pub of_absent : map (λ kind. Rules.aggregate kind (absent ∷ absent ∷ [])) (8 ∷ 9 ∷ 10 ∷ 11 ∷ []) ≡ Exact (pos 0) ∷ Exact (pos 0) ∷ Nothing ∷ Nothing ∷ []
-  pub of_no_cells : map (λ kind. Rules.aggregate kind []) (8 ∷ 9 ∷ 10 ∷ 11 ∷ []) ≡ Exact (pos 0) ∷ Exact (pos 0) ∷ Nothing ∷ Nothing ∷ []
+  pub aggregates : map (λ kind. Rules.aggregate kind some_cells) (8 ∷ 9 ∷ 10 ∷ 11 ∷ []) ≡ Some (pos 4) ∷ Some (pos 11) ∷ Some (negsuc 4) ∷ Some (pos 9) ∷ []
+  pub of_absent : map (λ kind. Rules.aggregate kind (absent ∷ absent ∷ [])) (8 ∷ 9 ∷ 10 ∷ 11 ∷ []) ≡ Some (pos 0) ∷ Some (pos 0) ∷ None ∷ None ∷ []
+  pub of_no_cells : map (λ kind. Rules.aggregate kind []) (8 ∷ 9 ∷ 10 ∷ 11 ∷ []) ≡ Some (pos 0) ∷ Some (pos 0) ∷ None ∷ None ∷ []
   -- one present cell is enough: with 0, and with the smallest and the largest amount
-  pub of_zero : map (λ kind. Rules.aggregate kind (absent ∷ held (pos 0) ∷ absent ∷ [])) (8 ∷ 9 ∷ 10 ∷ 11 ∷ []) ≡ Exact (pos 1) ∷ Exact (pos 0) ∷ Exact (pos 0) ∷ Exact (pos 0) ∷ []
-  pub of_lowest : map (λ kind. Rules.aggregate kind (absent ∷ held (negsuc 2147483647) ∷ [])) (10 ∷ 11 ∷ []) ≡ Exact (negsuc 2147483647) ∷ Exact (negsuc 2147483647) ∷ []
-  pub of_highest : map (λ kind. Rules.aggregate kind (held (pos 2147483647) ∷ absent ∷ [])) (10 ∷ 11 ∷ []) ≡ Exact (pos 2147483647) ∷ Exact (pos 2147483647) ∷ []
+  pub of_zero : map (λ kind. Rules.aggregate kind (absent ∷ held (pos 0) ∷ absent ∷ [])) (8 ∷ 9 ∷ 10 ∷ 11 ∷ []) ≡ Some (pos 1) ∷ Some (pos 0) ∷ Some (pos 0) ∷ Some (pos 0) ∷ []
+  pub of_lowest : map (λ kind. Rules.aggregate kind (absent ∷ held (negsuc 2147483647) ∷ [])) (10 ∷ 11 ∷ []) ≡ Some (negsuc 2147483647) ∷ Some (negsuc 2147483647) ∷ []
+  pub of_highest : map (λ kind. Rules.aggregate kind (held (pos 2147483647) ∷ absent ∷ [])) (10 ∷ 11 ∷ []) ≡ Some (pos 2147483647) ∷ Some (pos 2147483647) ∷ []
   -- smallest and largest of amounts on one side of 0
-  pub smallest_above : map (λ kind. Rules.aggregate kind (held (pos 9) ∷ held (pos 3) ∷ [])) (10 ∷ 11 ∷ []) ≡ Exact (pos 3) ∷ Exact (pos 9) ∷ []
-  pub largest_below : map (λ kind. Rules.aggregate kind (held (negsuc 9) ∷ held (negsuc 3) ∷ [])) (10 ∷ 11 ∷ []) ≡ Exact (negsuc 9) ∷ Exact (negsuc 3) ∷ []
+  pub smallest_above : map (λ kind. Rules.aggregate kind (held (pos 9) ∷ held (pos 3) ∷ [])) (10 ∷ 11 ∷ []) ≡ Some (pos 3) ∷ Some (pos 9) ∷ []
+  pub largest_below : map (λ kind. Rules.aggregate kind (held (negsuc 9) ∷ held (negsuc 3) ∷ [])) (10 ∷ 11 ∷ []) ≡ Some (negsuc 9) ∷ Some (negsuc 3) ∷ []
   -- 22
   pub in_range : ending (Rules.ranged 9 (labelled (pos 5) 1) sample) ≡ went [] (labelled (pos 5) 1)
   pub out_of_range : ending (Rules.ranged 9 (labelled (pos 2147483648) 1) sample) ≡ halted [] 22 9 (eight 0) (eight 0)
   -- what a query found: 22 of an amount, 31 of nothing
-  pub found : map (λ amount. ending (Rules.found 9 (1 ∷ []) amount sample)) (Exact (pos 5) ∷ Exact (pos 2147483648) ∷ Nothing ∷ [])
+  pub found : map (λ amount. ending (Rules.found 9 (1 ∷ []) amount sample)) (Some (pos 5) ∷ Some (pos 2147483648) ∷ None ∷ [])
       ≡ went [] (labelled (pos 5) 1) ∷ halted [] 22 9 (eight 0) (eight 0) ∷ halted [] 31 9 (eight 0) (eight 0) ∷ []
   -- each expression: its children in order, each in the state that the one before left; its value; its label
   pub constants : ending (Rules.expr giving 9 (syntax.const (negsuc 4)) sample) ≡ went [] (lit (negsuc 4))

@@ -1,7 +1,7 @@
 -- The rules: what a run of a book does, as one total definition.
 -- `exec` and `eval` recurse on fuel alone. Each entry to a node costs at least 1, so that a run whose fuel is its budget never
 -- runs out of it before it stops with 21 (claims/proofs/Fuel.antt).
-use Rattle.std.specs.Prelude.{List, [], ◌∷◌, ◌++◌, Bool, true, false, ◌&&◌, cond, ℕ, zero, suc, ◌+◌, ◌-◌, ◌*◌, ltb, eqb, ℤ, pos, negsuc, ◌+ℤ◌, ◌-ℤ◌, length, get_or}
+use Rattle.std.specs.Prelude.{List, [], ◌∷◌, ◌++◌, Bool, true, false, ◌&&◌, cond, ℕ, zero, suc, ◌+◌, ◌-◌, ◌*◌, ltb, eqb, ℤ, pos, negsuc, ◌+ℤ◌, ◌-ℤ◌, length, get_or, Option, Some, None}
 use Rattle.std.specs.Int.Signed.{lt_z, le_z, mag}
 use Rattle.places.specs.Places.{place, owner_of, line_of}
 use Rattle.places.specs.Sets.{has, union, difference}
@@ -13,8 +13,6 @@ use Rattle.book.specs.Start.{public_set}
 use Rattle.monitor.specs.Labelled.{Label, bottom, Lab, lit, lift, lift2, via, under}
 use Rattle.monitor.specs.Run.{Cell, held, absent, Rights, State, said, changed, M, ◌>>=◌, ◌>>◌, ret, look, each, when, halt, plainly, inside, need, update, pay, set_var, set_cell, tell, sixteen, own, undoing}
 use Rattle.monitor.specs.Syntax.{Exp, const, var, add, minus, equal, less, query, Cmd, skip, assign, seq, branch, while, put, clear, out, grant, revoke, raise, exp_of, cmd_of}
-use Rattle.monitor.specs.declared.Amount.{Amount}
-use Rattle.monitor.specs.declared.Amount.TheVariants.{Exact, Nothing}
 
 -- ---- expressions
 
@@ -92,26 +90,26 @@ best beats z [] = z
 best beats z (x ∷ xs) = best beats (cond (beats x z) x z) xs
 
 -- nothing if none is present
-unfoldable pub best_of : (ℤ → ℤ → Bool) → List ℤ → Amount
-best_of beats [] = Nothing
-best_of beats (z ∷ zs) = Exact (best beats z zs)
+unfoldable pub best_of : (ℤ → ℤ → Bool) → List ℤ → Option ℤ
+best_of beats [] = None
+best_of beats (z ∷ zs) = Some (best beats z zs)
 
 -- of the present cells: 8 how many, 9 their sum, 10 the smallest, 11 the largest. Where there is none, 8 and 9 are 0, and 10 and 11 are not there
-unfoldable pub aggregate : ℕ → List Cell → Amount
+unfoldable pub aggregate : ℕ → List Cell → Option ℤ
 aggregate kind cells =
     let amounts : List ℤ = amounts_of cells in
     cond (eqb kind 8)
-    (Exact (count_of amounts))
-    (cond (eqb kind 9) (Exact (sum_of amounts)) (cond (eqb kind 10) (best_of lt_z amounts) (best_of (λ x y. lt_z y x) amounts)))
+    (Some (count_of amounts))
+    (cond (eqb kind 9) (Some (sum_of amounts)) (cond (eqb kind 10) (best_of lt_z amounts) (best_of (λ x y. lt_z y x) amounts)))
 
 -- 22: sums and differences are exact; a final value outside signed 32 bits stops on that expression's node
 unfoldable pub ranged : ℕ → Lab ℤ → M (Lab ℤ)
 ranged i x = need (plainly (fits_32 x.val)) 22 i >> ret x
 
 -- what a query found, with the label of what it saw: 22 as above, or, where that is nothing, 31 on the query's node
-unfoldable pub found : ℕ → Label → Amount → M (Lab ℤ)
-found i l (Exact z) = ranged i (record { val = z; lab = l })
-found i l Nothing = halt 31 i
+unfoldable pub found : ℕ → Label → Option ℤ → M (Lab ℤ)
+found i l (Some z) = ranged i (record { val = z; lab = l })
+found i l None = halt 31 i
 
 -- what an expression gives, once its own cost is paid; children are evaluated in the order a, b, c, d
 unfoldable pub expr : (ℕ → M (Lab ℤ)) → ℕ → Exp → M (Lab ℤ)

@@ -1,9 +1,7 @@
 -- Tables: rows that say what a call on a file, or the run of a book, gives.
-use Rattle.std.specs.Prelude.{◌≡◌, List, [], ◌∷◌, map, Bool, true, ℕ, ◌/◌, ℤ, length, replicate}
+use Rattle.std.specs.Prelude.{◌≡◌, List, [], ◌∷◌, map, Bool, true, ℕ, ◌/◌, ℤ, length, replicate, Ok, Err}
 use Rattle.book.specs.Records.{Book}
-use Rattle.book.specs.Refusals.{book_verdict}
-use Rattle.book.specs.declared.Verdict.{Verdict}
-use Rattle.book.specs.declared.Verdict.TheVariants as verdicts
+use Rattle.book.specs.Refusals.{book_verdict, Verdict}
 use Rattle.monitor.specs.Labelled.{Lab}
 use Rattle.monitor.specs.Run.{Cell}
 use Rattle.monitor.specs.Call.{Memory, Result, values, run_book, result_of, call, trace_records}
@@ -52,8 +50,8 @@ called z n row = shown (call true row.of row.budget (lent z n row.trace))
 
 -- a book's run, with labels or without, if its records are accepted
 unfoldable pub book_answered : Bool → Book → ℕ → Memory → Verdict → Result
-book_answered labels b budget m (verdicts.Refused number index) = record { answer = Refused number index; memory = m }
-book_answered labels b budget m verdicts.Accepted = result_of budget m (run_book labels b budget (length m.trace / 8))
+book_answered labels b budget m (Err refusal) = record { answer = Refused refusal; memory = m }
+book_answered labels b budget m (Ok _) = result_of budget m (run_book labels b budget (length m.trace / 8))
 
 -- what that shows
 unfoldable pub ran : Bool → ℤ → ℕ → Row Book → Shown

@@ -6,7 +6,7 @@ ghost use Rattle.book.specs.Bytes.{le16, le32, signed32};
 ghost use Rattle.book.specs.Records.{Book};
 ghost use Rattle.book.specs.Layout.{count, decode};
 ghost use Rattle.book.specs.Kinds.{constant};
-ghost use Rattle.book.specs.Refusals.{first, Laid, bad_node, field_fits, is_zero, node_fits};
+ghost use Rattle.book.specs.Refusals.{first_bad, Laid, bad_node, field_fits, is_zero, node_fits};
 ghost use Rattle.nodes.specs.Known.{Known, Stands, fields_fit};
 
 // Whether node `n` may name `v` as a child of this sort: a lower number, and the right sort.
@@ -129,29 +129,26 @@ fn node_fits(
     numbers::u16_at(file, at + 14) == 0
 }
 
-// The first bad node, or their number if there is none. The sorts of the nodes passed are kept for those that name them as children.
-pub fn first_bad_node(file: &[u8]) -> usize
+// The first bad node, if there is one. The sorts of the nodes passed are kept for those that name them as children.
+pub fn first_bad_node(file: &[u8]) -> Option<usize>
     requires { Laid file.now }
-    ensures { result ≡ first (bad_node (decode file.now)) (count file.now 3) }
+    ensures { result ≡ first_bad (bad_node (decode file.now)) (count file.now 3) }
 {
     let regions = book::section_at(file, 1);
     let nodes = book::section_at(file, 3);
-    let table = kinds::table();
     let mut sorts = [kinds::NO_KIND; 1024];
-    let mut node: usize = 0;
-    while node < nodes.count {
+    for node in 0..nodes.count {
         let at = nodes.start + 16 * node;
         let kind = file[at];
         // A kind past the table is bad. With the others alone left, a row is found by its index.
         if 26 < kind {
-            return node;
+            return Some(node);
         }
-        let row = kinds::row_of(&table, kind);
+        let row = kinds::row_of(kind);
         if !node_fits(file, regions.count, &sorts, node, at, row) {
-            return node;
+            return Some(node);
         }
         sorts[node] = row.sort;
-        node += 1;
     }
-    node
+    None
 }

@@ -9,7 +9,7 @@ pub fn byte_at(file: &[u8], at: usize) -> usize
     requires { at < length file.now }
     ensures { (result ≡ byte file.now at) × (result < 256) }
 {
-    file[at] as usize
+    usize::from(file[at])
 }
 
 // The two bytes at `at`, lowest first.
@@ -17,10 +17,10 @@ pub fn u16_at(file: &[u8], at: usize) -> usize
     requires { at + 2 ≤ length file.now }
     ensures { (result ≡ le16 file.now at) × (result < 65536) }
 {
-    byte_at(file, at) + 256 * byte_at(file, at + 1)
+    usize::from(u16::from_le_bytes([file[at], file[at + 1]]))
 }
 
-// The three bytes at `at`, lowest first.
+// The three bytes at `at`, lowest first. They are put together here, since std reads no number of three bytes.
 pub fn u24_at(file: &[u8], at: usize) -> usize
     requires { at + 3 ≤ length file.now }
     ensures { result ≡ le24 file.now at }
@@ -33,9 +33,7 @@ pub fn u32_at(file: &[u8], at: usize) -> u32
     requires { at + 4 ≤ length file.now }
     ensures { result ≡ le32 file.now at }
 {
-    let low = u16_at(file, at);
-    let high = u16_at(file, at + 2);
-    (low + 65536 * high) as u32
+    u32::from_le_bytes([file[at], file[at + 1], file[at + 2], file[at + 3]])
 }
 
 // The eight bytes at `at`, lowest first.
@@ -43,9 +41,16 @@ pub fn u64_at(file: &[u8], at: usize) -> u64
     requires { at + 8 ≤ length file.now }
     ensures { result ≡ le64 file.now at }
 {
-    let low = u32_at(file, at);
-    let high = u32_at(file, at + 4);
-    low as u64 + 4294967296 * high as u64
+    u64::from_le_bytes([
+        file[at],
+        file[at + 1],
+        file[at + 2],
+        file[at + 3],
+        file[at + 4],
+        file[at + 5],
+        file[at + 6],
+        file[at + 7],
+    ])
 }
 
 // The four bytes at `at` as a signed number, two's complement.
@@ -53,26 +58,19 @@ pub fn i32_at(file: &[u8], at: usize) -> i32
     requires { at + 4 ≤ length file.now }
     ensures { result ≡ signed32 (le32 file.now at) }
 {
-    signed(u32_at(file, at))
+    u32_at(file, at).cast_signed()
 }
 
 // The signed number of 32 bits, two's complement.
 pub fn signed(bits: u32) -> i32
     ensures { result ≡ signed32 bits }
 {
-    if bits < 2147483648 {
-        return bits as i32;
-    }
-    let above = (bits - 2147483648) as i32;
-    above + (-2147483648)
+    bits.cast_signed()
 }
 
 // The 32 bits of a signed number, two's complement.
 pub fn bits_of(number: i32) -> u32
     ensures { result ≡ bits32 number }
 {
-    if number < 0 {
-        return (number as i64 + 4294967296) as u32;
-    }
-    number as u32
+    number.cast_unsigned()
 }

@@ -5,50 +5,57 @@ ghost use Rattle.std.specs.Prelude.{◌≡◌};
 ghost use Rattle.book.specs.Kinds.{command};
 ghost use Rattle.book.specs.Refusals.{node_at};
 ghost use Rattle.machine.specs.Script.{script_of, Node};
-ghost use Rattle.machine.specs.Store.{vars_of, store, Lent};
-ghost use Rattle.machine.specs.Promises.{Does, Commands, Who};
+ghost use Rattle.machine.specs.Store.{vars_of, store_of, Public};
+ghost use Rattle.machine.specs.Promises.{Does, Commands};
 
-use machine::{Outcome, Run, Script, Sets, Value};
+use machine::{Env, Scene, Script, Stopped, Store, Variables};
 
 // 23: out a to user p. Stop 27 where the user may not read it, 30 where the trace is full.
 pub fn out(
-    code: &Script,
+    script: Script,
     n: usize,
-    ctx: &[u64; 8],
-    vars: &[i32; 16],
-    tags: &[[u64; 8]; 16],
-    cells: &[i32; 512],
-    sets: &mut Sets,
-    run: &mut Run,
-    trace: &mut [u8],
-) -> Outcome
-    requires lent { Lent code.now sets.old run.old trace.old }
-    requires node { Node command (script_of code.now) n × ((node_at (script_of code.now) n).kind ≡ 23) }
-    ensures { (who : Who) → Does (Commands code.now ctx.now who n)
-        (vars_of vars.now tags.now) (store cells.now sets.old run.old trace.old) result
-        (vars_of vars.now tags.now) (store cells.now sets.new run.new trace.new) }
+    env: &Env,
+    vars: &Variables,
+    store: &mut Store,
+) -> Result<(), Stopped>
+    requires public_set { Public script.bytes.now store.old.sets }
+    requires node { Node command (script_of script.bytes.now) n × ((node_at (script_of script.bytes.now) n).kind ≡ 23) }
+    ensures { Does (Commands script.entry.bytes.now env.now.ctx env.now.who n)
+        (vars_of vars.now) (store_of store.old) result (vars_of vars.now) (store_of store.new) }
 {
+    let bytes = script.bytes;
     let at = 16 * n;
-    let a = numbers::u16_at(code, at + 2);
-    let mut label = *ctx;
-    let Value::Known(amount) = expressions::eval(code, a, vars, tags, cells, sets, run, &mut label)
-    else {
-        return Outcome::Stopped;
+    let a = numbers::u16_at(bytes, at + 2);
+    let mut label = env.ctx;
+    let scene = Scene {
+        script,
+        vars,
+        amounts: &store.amounts,
+        sets: &store.sets,
     };
-    let user = numbers::byte_at(code, at + 1);
-    let everyone = sets[machine::PUBLIC];
-    let readable = places::union(everyone, sets[machine::READ + user]);
+    // Let else and not `?`: the customer's document fixes this form for a child's answer.
+    let Ok(amount) = expressions::eval(&scene, a, &mut store.run, &mut label) else {
+        return Err(Stopped);
+    };
+    let user = numbers::byte_at(bytes, at + 1);
+    let readable = places::union(store.sets.public, store.sets.read[user]);
     let compared = places::within(label, readable);
     if !compared.inside {
-        return machine::stop_outside(run, sets, 27, n, &label, &readable);
+        return Err(machine::stop_outside(
+            &mut store.run,
+            &mut store.sets,
+            27,
+            n,
+            &label,
+            &readable,
+        ));
     }
-    let all: &[u32] = run;
-    let used = run[machine::USED] as usize;
-    if trace.len() < used + 8 {
-        return machine::stop(run, 30, n);
+    let used = store.run.used;
+    if store.trace.len() < used + 8 {
+        return Err(machine::stop(&mut store.run, 30, n));
     }
     let bits = numbers::bits_of(amount);
-    traces::put_record(&mut trace[used..], 1, user as u8, 0, bits);
-    run[machine::USED] = run[machine::USED] + 8;
-    Outcome::Done
+    traces::put_record(&mut store.trace[used..], 1, user as u8, 0, bits);
+    store.run.used += 8;
+    Ok(())
 }

@@ -2,7 +2,7 @@
 use mathlib.Core.Path.{◌≡◌, refl, sym, ap, ◌∙◌}
 use mathlib.Core.List.{List}
 use mathlib.Core.Bool.{Bool, true, false, not, true≢false, false≢true}
-use mathlib.Core.Option.{Option, some}
+use Rattle.std.specs.Prelude.{Option, Some}
 use mathlib.Core.Logic.{◌↔◌}
 use native.Mathlib.Decide.{dec_lt}
 use Prim.Native.Nat.{ℕ, suc, ◌+◌, ◌-◌, ◌*◌, ◌/◌, ◌%◌, ◌≤◌, ◌<◌, zero-le}
@@ -16,7 +16,7 @@ use Rattle.places.specs.Sets.{Words, bit, has, without, difference, within, lowe
 use Rattle.places.specs.Claims.{SameWords, EndsEarly}
 use Rattle.places.proofs.Bits.{bit_lt, bit_zero, bit_high, bit_without, same_bits}
 use Rattle.places.proofs.Sets.{bit_at, and_both, within_bits, bits_within, difference_word, has_difference, has_below}
-use Rattle.places.proofs.Counting.{None, Least, found, missing, least_is, least_found, no_least, lowest_some}
+use Rattle.places.proofs.Counting.{NonePicked, Least, found, missing, least_is, least_found, no_least, lowest_some}
 
 -- ---- one word
 
@@ -79,7 +79,7 @@ module _ (a b : List ℕ) where
       go true e = absurd (true≢false (sym m ∙ within_misses e w))
       go false e = refl
 
-  misses_within : None (misses a b) (length a) → within a b ≡ true
+  misses_within : NonePicked (misses a b) (length a) → within a b ≡ true
   misses_within h = (bits_within (λ w k. at w k (dec_lt w (length a)))).holds
     where
       at : (w k : ℕ) → Dec (w < length a) → bit_at a w k ≤ bit_at b w k
@@ -91,18 +91,18 @@ module _ (a b : List ℕ) where
   -- ---- the two ends of the loop
 
   -- at the first word with a missing place
-  pub ends_at : (w : ℕ) → w < length a → misses a b w ≡ true → None (misses a b) w → (within a b ≡ false) × (looked_at a b ≡ suc w)
+  pub ends_at : (w : ℕ) → w < length a → misses a b w ≡ true → NonePicked (misses a b) w → (within a b ≡ false) × (looked_at a b ≡ suc w)
   unfolding looked_at
   ends_at w l m h = (misses_outside w m, ap (λ (o : Option ℕ). up_to_and_with o (length a)) (least_found (misses a b) (length a) w l m h))
 
   -- past the last word
-  pub ends_past : None (misses a b) (length a) → (within a b ≡ true) × (looked_at a b ≡ length a)
+  pub ends_past : NonePicked (misses a b) (length a) → (within a b ≡ true) × (looked_at a b ≡ length a)
   unfolding looked_at
   ends_past h = (misses_within h, ap (λ (o : Option ℕ). up_to_and_with o (length a)) (no_least (misses a b) (length a) h))
 
   -- ---- the word of the lowest missing place
 
-  lowest_word : Words a → (p : ℕ) → lowest (difference a b) ≡ some p → (p / 64 < length a) × (misses a b (p / 64) ≡ true) × None (misses a b) (p / 64)
+  lowest_word : Words a → (p : ℕ) → lowest (difference a b) ≡ Some p → (p / 64 < length a) × (misses a b (p / 64) ≡ true) × NonePicked (misses a b) (p / 64)
   lowest_word words p e = (below, there, before)
     where
       is : (has (difference a b) p ≡ true) × ((q : ℕ) → q < p → has (difference a b) q ≡ false)
@@ -122,7 +122,7 @@ module _ (a b : List ℕ) where
           let gone : bit_at a w k - bit_at b w k ≡ 0 = omega arith in
           ap (bit k) (difference_word a b w) ∙ bit_without k (get_or a w 0) (get_or b w 0) ∙ gone ∙ sym (bit_zero k)
 
-      before : None (misses a b) (p / 64)
+      before : NonePicked (misses a b) (p / 64)
       before w h = ap not (eq-eqb _ 0 (same_bits (get_or (difference a b) w 0) 0 (λ k. bits w k h (dec_lt k 64))))
 
 -- ---- the laws
@@ -130,7 +130,7 @@ module _ (a b : List ℕ) where
 pub ends_early : (a b : List ℕ) → EndsEarly a b
 ends_early a b = go (least_is (misses a b) (length a))
   where
-    there : Words a → (p : ℕ) → lowest (difference a b) ≡ some p → looked_at a b ≡ suc (p / 64)
+    there : Words a → (p : ℕ) → lowest (difference a b) ≡ Some p → looked_at a b ≡ suc (p / 64)
     there words p e =
         let w = lowest_word a b words p e in
         (ends_at a b (p / 64) w.0 w.1 w.2).1

@@ -1,6 +1,5 @@
 -- What the number of words looked at means, for any number of words, as statements. Their proofs are in proofs/.
-use Rattle.std.specs.Prelude.{◌≡◌, List, true, false, not, ℕ, suc, ◌-◌, ◌/◌, ◌≤◌, ◌<◌, length, get_or}
-use Rattle.std.proofs.Math.Option.{some}
+use Rattle.std.specs.Prelude.{◌≡◌, List, true, false, not, ℕ, suc, ◌-◌, ◌/◌, ◌≤◌, ◌<◌, length, get_or, Some}
 use Rattle.places.specs.Sets.{Words, difference, within, lowest, misses, looked_at}
 
 -- word w is the first with a missing place
@@ -29,4 +28,4 @@ pub record EndsEarly (a b : List ℕ) : Type 0 where
   pub looks_no_further : (a' b' : List ℕ) → length a ≡ length a' → SameWords (looked_at a b) a b a' b'
       → (within a b ≡ within a' b') × (looked_at a b ≡ looked_at a' b')
   -- the last word looked at has the lowest missing place
-  pub lowest_there : Words a → (p : ℕ) → lowest (difference a b) ≡ some p → looked_at a b ≡ suc (p / 64)
+  pub lowest_there : Words a → (p : ℕ) → lowest (difference a b) ≡ Some p → looked_at a b ≡ suc (p / 64)

@@ -1,7 +1,6 @@
 -- Sets of places (the paper's labels, presence, and read, write and public sets) as lists of 64-bit words.
 -- Place p is bit p % 64 of word p / 64, which is bit 8 · owner + line of word `table`. Nothing here fixes the number of words.
-use Rattle.std.specs.Prelude.{◌≡◌, List, [], ◌∷◌, Bool, true, false, ◌&&◌, not, cond, ℕ, zero, suc, ◌+◌, ◌*◌, ◌/◌, ◌%◌, ◌^◌, ◌<◌, eqb, length, get_or, replicate}
-use Rattle.std.proofs.Math.Option.{Option, none, some}
+use Rattle.std.specs.Prelude.{◌≡◌, List, [], ◌∷◌, Bool, true, false, ◌&&◌, not, cond, ℕ, zero, suc, ◌+◌, ◌*◌, ◌/◌, ◌%◌, ◌^◌, ◌<◌, eqb, length, get_or, replicate, Option, Some, None}
 use Rattle.std.specs.Int.Bits.{bit_or, bit_and, bit_xor}
 
 -- each word is a number of 64 bits
@@ -80,13 +79,13 @@ unfoldable pub size : List ℕ → ℕ
 size s = tally (has s) (64 * length s)
 
 abbrev pub or_else : Option ℕ → Option ℕ → Option ℕ
-or_else (some p) q = some p
-or_else none q = q
+or_else (Some p) q = Some p
+or_else None q = q
 
 -- the least of the numbers below n that f picks
 unfoldable pub least : (ℕ → Bool) → ℕ → Option ℕ
-least f zero = none
-least f (suc n) = or_else (least f n) (cond (f n) (some n) none)
+least f zero = None
+least f (suc n) = or_else (least f n) (cond (f n) (Some n) None)
 
 -- the lowest member
 unfoldable pub lowest : List ℕ → Option ℕ
@@ -100,8 +99,8 @@ misses a b w = not (eqb (get_or (difference a b) w 0) 0)
 
 -- as many words as there are up to and with this one; n if there is none
 abbrev pub up_to_and_with : Option ℕ → ℕ → ℕ
-up_to_and_with (some w) n = suc w
-up_to_and_with none n = n
+up_to_and_with (Some w) n = suc w
+up_to_and_with None n = n
 
 -- how many words a comparison looks at, from word 0 up: the last is the first with a missing place; where there is none, all are looked at
 unfoldable pub looked_at : List ℕ → List ℕ → ℕ

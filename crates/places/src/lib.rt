@@ -39,10 +39,8 @@ pub fn union(a: [u64; 8], b: [u64; 8]) -> [u64; 8]
     ensures { result ≡ union a b }
 {
     let mut set = [0u64; 8];
-    let mut i: usize = 0;
-    while i < 8 {
+    for i in 0..8 {
         set[i] = a[i] | b[i];
-        i += 1;
     }
     set
 }
@@ -52,10 +50,8 @@ pub fn difference(a: [u64; 8], b: [u64; 8]) -> [u64; 8]
     ensures { result ≡ difference a b }
 {
     let mut set = [0u64; 8];
-    let mut i: usize = 0;
-    while i < 8 {
+    for i in 0..8 {
         set[i] = a[i] ^ (a[i] & b[i]);
-        i += 1;
     }
     set
 }
@@ -64,8 +60,7 @@ pub fn difference(a: [u64; 8], b: [u64; 8]) -> [u64; 8]
 pub fn within(a: [u64; 8], b: [u64; 8]) -> Comparison
     ensures { (result.inside ≡ within a b) × (result.words ≡ looked_at a b) }
 {
-    let mut word: usize = 0;
-    while word < 8 {
+    for word in 0..8 {
         let missing = a[word] ^ (a[word] & b[word]);
         if missing != 0 {
             let words = word + 1;
@@ -74,7 +69,6 @@ pub fn within(a: [u64; 8], b: [u64; 8]) -> Comparison
                 words,
             };
         }
-        word += 1;
     }
     Comparison {
         inside: true,

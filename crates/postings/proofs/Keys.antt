@@ -1,36 +1,16 @@
 -- Keys: the tests of a key, and its place. Assumes nothing.
-use mathlib.Core.Path.{◌≡◌, refl, ◌∙◌}
-use mathlib.Core.Bool.{true, ◌&&◌, not, false≢true}
+use mathlib.Core.Path.{◌≡◌, refl, sym, ◌∙◌}
+use mathlib.Core.Bool.{Bool, true, ◌&&◌, false≢true}
 use Prim.Native.Nat.{ℕ, ◌<◌}
-use native.Mathlib.Decide.{dec_lt}
 use native.Mathlib.Omega.{arith}
-use borrow.Author.Tests.{lt-leb, le-leb, lt-ltb, le-ltb, leb-true}
-use lib.Dec.{T, leb, ltb}
+use borrow.Author.Tests.{leb-true}
+use lib.Dec.{T, leb}
 use lib.IntN.{ℤ, pos, negsuc, nat_abs}
-use lib.Signed.{lt_z, le_z, non_neg}
+use lib.Signed.{le_z, non_neg}
 use Rattle.book.proofs.Chains.{both}
-use Rattle.monitor.specs.Rules.{nat, in_table}
-use Rattle.machine.specs.Writes.{key_of}
-
--- at most is not above
-at_most : (m n : ℕ) → leb n m ≡ not (ltb m n)
-at_most m n = go (dec_lt m n)
-  where
-    go : Dec (m < n) → leb n m ≡ not (ltb m n)
-    go (yes h) = rw (lt-leb n m h, lt-ltb m n h)
-    go (no h) = rw (le-leb n m (omega arith), le-ltb m n (omega arith))
-
-not_above : (a b : ℤ) → le_z b a ≡ not (lt_z a b)
-not_above (pos m) (pos n) = at_most m n
-not_above (pos m) (negsuc n) = refl
-not_above (negsuc m) (pos n) = refl
-not_above (negsuc m) (negsuc n) = at_most n m
-
--- the tests of `is_key`
-pub key_tests : (owner line : ℤ)
-    → in_table (key_of owner line) ≡ (not (lt_z owner (pos 0)) && not (lt_z (pos 7) owner)) && (not (lt_z line (pos 0)) && not (lt_z (pos 7) line))
-unfolding in_table
-key_tests owner line = rw (not_above owner (pos 0), not_above (pos 7) owner, not_above line (pos 0), not_above (pos 7) line)
+use Rattle.monitor.specs.Rules.{nat, key_place, in_table}
+use Rattle.machine.specs.Writes.{key_of, key_in}
+use Rattle.machine.specs.declared.lent.Entry.{Entry}
 
 -- a number from 0 to 7
 pub record Digit (z : ℤ) : Type 0 where
@@ -55,3 +35,11 @@ pub record Cast (w z : ℤ) : Type 0 where
 
 pub cast : (w z : ℤ) → w ≡ z → Digit z → Cast w z
 cast w z e d = rw (e ∙ d.is) (record { not_negative = tt; is = refl; below = d.below })
+
+-- the tests of an entry's key, and its place, as the code reads owner and line
+module _ (entry : Entry) where
+  pub tested : {owner line : ℤ} → owner ≡ entry.owner → line ≡ entry.line → {r : Bool} → r ≡ in_table (key_of owner line) → in_table (key_in entry) ≡ r
+  tested o l e = rw (← o, ← l) (sym e)
+
+  pub placed : (table : ℕ) {owner line : ℤ} → owner ≡ entry.owner → line ≡ entry.line → {q : ℕ} → q ≡ key_place table (key_of owner line) → q ≡ key_place table (key_in entry)
+  placed table o l e = rw (← o, ← l) e

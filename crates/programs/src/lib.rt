@@ -4,58 +4,41 @@
 ghost use Rattle.std.specs.Prelude.{◌≡◌, true, ℕ, ◌<◌, ℤ, length};
 ghost use Rattle.monitor.specs.Labelled.{Lab};
 ghost use Rattle.machine.specs.Script.{script_of};
-ghost use Rattle.machine.specs.Store.{idle, store, Lent};
+ghost use Rattle.machine.specs.Store.{idle, store_of, Public};
 ghost use Rattle.machine.specs.Promises.{Does};
 ghost use Rattle.programs.specs.Programs.{Program, Programs};
 
-use machine::{Outcome, Run, Script, Sets};
+use machine::{Env, Script, Stopped, Store, Variables, Who};
 
 // Runs program `i` with sixteen variables 0 of empty label and the empty context.
-fn program(
-    code: &Script,
-    i: usize,
-    cells: &mut [i32; 512],
-    sets: &mut Sets,
-    run: &mut Run,
-    trace: &mut [u8],
-) -> Outcome
-    requires { Lent code.now sets.old run.old trace.old × (i < length (script_of code.now).programs) × (idle sets.old ≡ true) }
-    ensures { (vars : ℕ → Lab ℤ) → Does (Program code.now i)
-        vars (store cells.old sets.old run.old trace.old) result
-        vars (store cells.new sets.new run.new trace.new) }
+fn program(script: Script, i: usize, store: &mut Store) -> Result<(), Stopped>
+    requires { Public script.bytes.now store.old.sets × (i < length (script_of script.bytes.now).programs) × (idle store.old.sets ≡ true) }
+    ensures { (vars : ℕ → Lab ℤ) → Does (Program script.entry.bytes.now i) vars (store_of store.old) result vars (store_of store.new) }
 {
+    let bytes = script.bytes;
     let at = machine::PROGRAMS + 4 * i;
-    let who = [numbers::byte_at(code, at), 0];
-    let root = numbers::u16_at(code, at + 2);
+    let user = numbers::byte_at(bytes, at);
+    let root = numbers::u16_at(bytes, at + 2);
     let none = [0u64; 8];
-    let mut vars = [0i32; 16];
-    let mut tags = [none; 16];
-    commands::exec(
-        code, root, &who, &none, &mut vars, &mut tags, cells, sets, run, trace,
-    )
+    let env = Env {
+        ctx: none,
+        who: Who { user, above: 0 },
+    };
+    let mut vars = Variables {
+        values: [0; 16],
+        labels: [none; 16],
+    };
+    commands::exec(script, root, &env, &mut vars, store)
 }
 
 // Runs the programs by number; a stop ends the whole run.
-pub fn programs(
-    code: &Script,
-    cells: &mut [i32; 512],
-    sets: &mut Sets,
-    run: &mut Run,
-    trace: &mut [u8],
-) -> Outcome
-    requires { Lent code.now sets.old run.old trace.old × (idle sets.old ≡ true) }
-    ensures { (vars : ℕ → Lab ℤ) → Does (Programs code.now 0)
-        vars (store cells.old sets.old run.old trace.old) result
-        vars (store cells.new sets.new run.new trace.new) }
+pub fn programs(script: Script, store: &mut Store) -> Result<(), Stopped>
+    requires { Public script.bytes.now store.old.sets × (idle store.old.sets ≡ true) }
+    ensures { (vars : ℕ → Lab ℤ) → Does (Programs script.entry.bytes.now 0) vars (store_of store.old) result vars (store_of store.new) }
 {
-    let count = numbers::u16_at(code, machine::PROGRAMS_COUNT);
-    let mut i: usize = 0;
-    while i < count {
-        let ran = program(code, i, cells, sets, run, trace);
-        let Outcome::Done = ran else {
-            return Outcome::Stopped;
-        };
-        i += 1;
+    let bytes = script.bytes;
+    for i in 0..numbers::u16_at(bytes, machine::PROGRAMS_COUNT) {
+        program(script, i, store)?;
     }
-    Outcome::Done
+    Ok(())
 }

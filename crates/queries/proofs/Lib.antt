@@ -1,5 +1,5 @@
 pub mod Tallies
 pub mod Passed
 pub mod Boxes
-pub mod Clipped
 pub mod Sweeps
+pub mod Clipped

@@ -10,12 +10,13 @@ use lib.IntN.{ℤ, pos}
 use lib.ListN.{get_or}
 use lib.Signed.{mag}
 use borrow.Author.Tests.{eq-eqb, ne_eqb}
+use Rattle.std.specs.Prelude.{Option}
 use Rattle.places.specs.Sets.{has, union}
 use Rattle.monitor.specs.Labelled.{Label, bottom, Lab}
 use Rattle.monitor.specs.Run.{Cell}
 use Rattle.monitor.specs.Rules.{in_box}
-use Rattle.machine.specs.Store.{row_at, present_row, label_row, cells_held}
-use Rattle.monitor.specs.declared.Amount.{Amount}
+use Rattle.machine.specs.Store.{row_at, cells_held}
+use Rattle.machine.specs.declared.lent.Sets.{Sets}
 use Rattle.queries.specs.declared.Found.{Found}
 use Rattle.queries.specs.Found.{box, found_in}
 use Rattle.queries.specs.Tallies.{start_of, with_amount, amount_of, first_from, first_above}
@@ -85,7 +86,7 @@ module _ (kind : ℕ) (cells : ℕ → Lab Cell) (first last low high : ℤ) (ta
   unfolding found_in
   found {o} h at =
       let all = over (8 * o) 64 (omega arith) (λ i a b. owner_above first last low high table i (omega arith) (omega arith)) at.swept in
-      ap₂ (λ (a : Amount) (l : Label). record { amount = a; label = l }) (ap (amount_of kind) all.tally_is ∙ amount_is _ all.within kind) all.label_is
+      ap₂ (λ (a : Option ℤ) (l : Label). record { amount = a; label = l }) (ap (amount_of kind) all.tally_is ∙ amount_is _ all.within kind) all.label_is
 
 -- ---- a place in the box
 
@@ -117,19 +118,19 @@ module _ {kind : ℕ} {cells : ℕ → Lab Cell} {first last low high : ℤ} {ta
     swept = rw add_assoc at p;
   }
 
-module _ {kind : ℕ} (amounts : List ℤ) (sets : List (List ℕ)) {first last low high : ℤ} (table : ℕ) {o n : ℕ} {t : ℤ} {l l' : Label} (at : AtLine kind (cells_held amounts sets) first last low high table o n t l) (in_lines : n < first_above high) (joined : l' ≡ union l (row_at sets (label_row + (64 * table + (8 * o + n))))) where
+module _ {kind : ℕ} (amounts : List ℤ) (sets : Sets) {first last low high : ℤ} (table : ℕ) {o n : ℕ} {t : ℤ} {l l' : Label} (at : AtLine kind (cells_held amounts sets) first last low high table o n t l) (in_lines : n < first_above high) (joined : l' ≡ union l (row_at sets.labels (64 * table + (8 * o + n)))) where
   -- its cell is absent: only its label counts
-  pub meet_absent : (get_or (row_at sets present_row) table 0 / 2 ^ (8 * o + n) % 2 ≡ 1 → ⊥)
+  pub meet_absent : (get_or sets.present table 0 / 2 ^ (8 * o + n) % 2 ≡ 1 → ⊥)
       → AtLine kind (cells_held amounts sets) first last low high table o (n + 1) t l'
   unfolding cells_held
   meet_absent e =
       let lt = bit_lt at in_lines in
-      next_line at in_lines (pass_absent kind _ _ _ (8 * o + n) (here at in_lines) joined at.swept (presence_at (row_at sets present_row) table (8 * o + n) lt ∙ ne_eqb _ 1 e))
+      next_line at in_lines (pass_absent kind _ _ _ (8 * o + n) (here at in_lines) joined at.swept (presence_at sets.present table (8 * o + n) lt ∙ ne_eqb _ 1 e))
 
   -- its cell is present: its amount counts too
-  pub meet_present : {t' : ℤ} → get_or (row_at sets present_row) table 0 / 2 ^ (8 * o + n) % 2 ≡ 1 → mag (get_or amounts (64 * table + (8 * o + n)) (pos 0)) < 2147483648
+  pub meet_present : {t' : ℤ} → get_or sets.present table 0 / 2 ^ (8 * o + n) % 2 ≡ 1 → mag (get_or amounts (64 * table + (8 * o + n)) (pos 0)) < 2147483648
       → t' ≡ with_amount kind t (get_or amounts (64 * table + (8 * o + n)) (pos 0)) → AtLine kind (cells_held amounts sets) first last low high table o (n + 1) t' l'
   unfolding cells_held
   meet_present e small more =
       let lt = bit_lt at in_lines in
-      next_line at in_lines (pass_present kind _ _ _ (8 * o + n) (here at in_lines) joined at.swept (presence_at (row_at sets present_row) table (8 * o + n) lt ∙ eq-eqb _ 1 e) small more)
+      next_line at in_lines (pass_present kind _ _ _ (8 * o + n) (here at in_lines) joined at.swept (presence_at sets.present table (8 * o + n) lt ∙ eq-eqb _ 1 e) small more)

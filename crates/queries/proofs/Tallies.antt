@@ -9,9 +9,12 @@ use lib.Dec.{eqb, ltb}
 use lib.IntN.{ℤ, pos, negsuc, ◌+ℤ◌, +ℤ_idl, +ℤ_idr, +ℤ_assoc}
 use lib.Signed.{mag, lt_z}
 use borrow.Author.Tests.{lt-ltb, le-ltb, ne_eqb}
+use mir.Syntax.{w32, w64}
+use mir.Val.{SFits, to_z, of_z}
+use mir.Facts.{sfits_widen, to_z-of_z}
+use Rattle.std.specs.Prelude.{Some}
 use Rattle.monitor.specs.Run.{Cell}
 use Rattle.monitor.specs.Rules.{amounts_of, count_of, sum_of, best, best_of, aggregate}
-use Rattle.monitor.specs.declared.Amount.TheVariants.{Exact}
 use Rattle.queries.specs.Tallies.{start_of, with_amount, with_amounts, tally_of, no_amount, amount_of}
 
 -- ---- one more at the end
@@ -106,8 +109,8 @@ module _ (cells : List Cell) (w : Within (amounts_of cells)) where
   amount_is kind = go (ℕ_discrete kind 8) (ℕ_discrete kind 9) (ℕ_discrete kind 10)
     where
       go : Dec (kind ≡ 8) → Dec (kind ≡ 9) → Dec (kind ≡ 10) → amount_of kind (tally_of kind zs) ≡ aggregate kind cells
-      go (yes e) y z = rw e (ap Exact (counts (pos 0) zs ∙ +ℤ_idl (count_of zs)))
-      go (no n) (yes e) z = rw e (ap Exact (sums (pos 0) zs ∙ +ℤ_idl (sum_of zs)))
+      go (yes e) y z = rw e (ap Some (counts (pos 0) zs ∙ +ℤ_idl (count_of zs)))
+      go (no n) (yes e) z = rw e (ap Some (sums (pos 0) zs ∙ +ℤ_idl (sum_of zs)))
       go (no n) (no m) (yes e) = rw e (rw (least (pos 2147483648) zs) (least_is w))
       go (no n) (no m) (no l) =
           let a = ne_eqb kind 8 n in
@@ -116,6 +119,10 @@ module _ (cells : List Cell) (w : Within (amounts_of cells)) where
           rw (a, b, d) (rw (most kind a b d (negsuc 2147483648) zs) (rw (a, b, d) at (most_is kind a b d w)))
 
 -- ---- a tally keeps within 64 bits
+
+-- a number of 32 bits, as one of 64
+pub widened : {z x : ℤ} → SFits w32 z → x ≡ to_z w32 (of_z w32 z) → to_z w64 (of_z w64 x) ≡ z
+widened p e = rw (e, to_z-of_z p) (to_z-of_z {w = w64} (sfits_widen {w = w32} {w' = w64} tt p))
 
 mag_cond : (t : Bool) (x y n : ℕ) → x ≤ n → y ≤ n → mag (cond t (negsuc x) (pos y)) ≤ n
 mag_cond true x y n p q = p

@@ -1,8 +1,6 @@
 -- What a query works out of the present cells, and the numbers of a box that lie in a table.
-use Rattle.std.specs.Prelude.{List, [], ◌∷◌, Bool, false, cond, ℕ, ◌+◌, min, eqb, ℤ, pos, negsuc, ◌+ℤ◌}
+use Rattle.std.specs.Prelude.{List, [], ◌∷◌, Bool, false, cond, ℕ, ◌+◌, min, eqb, ℤ, pos, negsuc, ◌+ℤ◌, Option, Some, None}
 use Rattle.std.specs.Int.Signed.{lt_z}
-use Rattle.monitor.specs.declared.Amount.{Amount}
-use Rattle.monitor.specs.declared.Amount.TheVariants.{Exact, Nothing}
 
 -- the tally of no amounts: 0, or for 10 smallest and 11 largest a number past every amount of 32 bits
 unfoldable pub start_of : ℕ → ℤ
@@ -30,8 +28,8 @@ no_amount kind t =
     cond (eqb kind 8) false (cond (eqb kind 9) false (cond (eqb kind 10) (lt_z (pos 2147483647) t) (lt_z t (negsuc 2147483647))))
 
 -- what a query of this kind finds, from the tally of the amounts
-unfoldable pub amount_of : ℕ → ℤ → Amount
-amount_of kind t = cond (no_amount kind t) Nothing (Exact t)
+unfoldable pub amount_of : ℕ → ℤ → Option ℤ
+amount_of kind t = cond (no_amount kind t) None (Some t)
 
 -- the first of the numbers 0 to 7 that is not below a bound, or 8
 unfoldable pub first_from : ℤ → ℕ

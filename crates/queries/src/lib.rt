@@ -8,12 +8,12 @@ ghost use Rattle.queries.specs.Found.{box_in, found_in};
 ghost use Rattle.queries.specs.Tallies.{start_of, with_amount, no_amount, amount_of, first_from, first_above};
 
 use machine::Sets;
-use monitor::Amount;
 
-// What a query finds, and the labels of all cells in its box.
+// What a query finds, and the labels of all cells in its box. The amount is exact, not yet held to 32 bits; none is that of the smallest or
+// largest of no present cell.
 #[derive(Clone, Copy)]
 pub struct Found {
-    pub amount: Amount,
+    pub amount: Option<i64>,
     pub label: [u64; 8],
 }
 
@@ -34,40 +34,28 @@ fn counted(kind: u8, tally: i64, amount: i32) -> i64
     requires { mag tally < 2 ^ 62 }
     ensures { result ≡ with_amount kind tally amount }
 {
-    let value = amount as i64;
+    let value = i64::from(amount);
     if kind / 2 == 4 {
         return if kind == 8 { tally + 1 } else { tally + value };
     }
     if kind == 10 {
-        return if value < tally { value } else { tally };
+        return tally.min(value);
     }
-    if tally < value { value } else { tally }
+    value.max(tally)
 }
 
 // The first of the eight numbers that is not below `bound`, or 8.
 fn first_from(bound: i32) -> usize
     ensures { result ≡ first_from bound }
 {
-    if bound < 0 {
-        return 0;
-    }
-    if 7 < bound {
-        return 8;
-    }
-    bound as usize
+    bound.clamp(0, 8) as usize
 }
 
 // The first of the eight numbers that is above `bound`, or 8.
 fn first_above(bound: i32) -> usize
     ensures { result ≡ first_above bound }
 {
-    if bound < 0 {
-        return 0;
-    }
-    if 7 <= bound {
-        return 8;
-    }
-    bound as usize + 1
+    (bound.clamp(-1, 7) + 1) as usize
 }
 
 // Whether a tally has no amount for a query to give: where a smallest or largest is still past every amount. Count and sum always have one.
@@ -83,41 +71,35 @@ fn is_nothing(kind: u8, tally: i64) -> bool
 }
 
 // What a query finds, from the tally of the present cells in its box.
-fn amount(kind: u8, tally: i64) -> Amount
+fn amount(kind: u8, tally: i64) -> Option<i64>
     ensures { result ≡ amount_of kind tally }
 {
     if is_nothing(kind, tally) {
-        return Amount::Nothing;
+        return None;
     }
-    Amount::Exact(tally)
+    Some(tally)
 }
 
 // A query of kind 8 to 11. The four bounds are the first and the last owner, and the first and the last line; they may lie outside 0 to 7.
-pub fn query(kind: u8, table: usize, bounds: &[i32; 4], cells: &[i32; 512], sets: &Sets) -> Found
+pub fn query(kind: u8, table: usize, bounds: &[i32; 4], amounts: &[i32; 512], sets: &Sets) -> Found
     requires { table < 8 }
-    ensures { result ≡ found_in kind (cells_held cells.now sets.now) (box_in bounds.now) table }
+    ensures { result ≡ found_in kind (cells_held amounts.now sets.now) (box_in bounds.now) table }
 {
     let end_owner = first_above(bounds[1]);
     let start_line = first_from(bounds[2]);
     let end_line = first_above(bounds[3]);
-    let present = sets[machine::PRESENT][table];
+    let present = sets.present[table];
     let mut tally = start(kind);
     let mut label = [0u64; 8];
-    let mut owner = first_from(bounds[0]);
-    while owner < end_owner {
-        let mut line = start_line;
-        while line < end_line {
+    for owner in first_from(bounds[0])..end_owner {
+        for line in start_line..end_line {
             let bit = 8 * owner + line;
             let place = 64 * table + bit;
-            let next = places::union(label, sets[machine::LABELS + place]);
-            label = next;
+            machine::join(&mut label, sets.labels[place]);
             if (present >> bit) % 2 == 1 {
-                let more = counted(kind, tally, cells[place]);
-                tally = more;
+                tally = counted(kind, tally, amounts[place]);
             }
-            line += 1;
         }
-        owner += 1;
     }
     Found {
         amount: amount(kind, tally),

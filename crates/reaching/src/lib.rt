@@ -59,11 +59,9 @@ pub fn reaching_flags(file: &[u8], nodes: book::Section) -> [bool; 1024]
     ensures { (i : ℕ) → i < count file.now 3 → get_or result i false ≡ reaches (decode file.now) (count file.now 3) i }
 {
     let mut flags = [false; 1024];
-    let mut flagged: usize = 0;
-    while flagged < nodes.count {
+    for flagged in 0..nodes.count {
         let flag = reaches(file, nodes, &flags, flagged);
         flags[flagged] = flag;
-        flagged += 1;
     }
     flags
 }

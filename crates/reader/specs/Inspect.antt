@@ -1,8 +1,7 @@
 -- What the reader's contract says in the paper's numbers.
 use Rattle.std.specs.Prelude.{◌≡◌, List, cond, ℕ}
 use Rattle.book.specs.Layout.{decode}
-use Rattle.book.specs.Refusals.{verdict_values, length_fits, mark_fits, sections_fit, book_verdict, verdict}
-use Rattle.book.specs.declared.Verdict.{Verdict}
+use Rattle.book.specs.Refusals.{verdict_values, length_fits, mark_fits, sections_fit, book_verdict, verdict, Verdict}
 
 -- what `inspect` ensures of its answer, in numbers: 2, 3 and 4 with index 0, in this order, then the number, 5 to 10 or 32, and the index of the first bad record
 abbrev pub InspectValues : Type 0

@@ -4,7 +4,7 @@
 ghost use Rattle.std.specs.Prelude.{◌≡◌, ◌&&◌, cond, ◌+◌, ◌≤◌, eqb, leb, length};
 ghost use Rattle.book.specs.Records.{cells_format, regions_format, rights_format};
 ghost use Rattle.book.specs.Layout.{count, decode};
-ghost use Rattle.book.specs.Refusals.{first, Laid, cell_fits, bad_cell, region_fits, bad_region, right_fits, bad_right};
+ghost use Rattle.book.specs.Refusals.{first_bad, Laid, cell_fits, bad_cell, region_fits, bad_region, right_fits, bad_right};
 
 // Whether table, owner and line of the cell record at `at` are 0 to 7, and the byte after them is 0.
 fn cell_fits(file: &[u8], at: usize) -> bool
@@ -23,29 +23,28 @@ fn cell_fits(file: &[u8], at: usize) -> bool
     numbers::byte_at(file, at + 3) == 0
 }
 
-// Refusal 5: the first bad cell record, or the number of cells; `least` is the least place that the next record may have.
-pub fn first_bad_cell(file: &[u8]) -> usize
+// Each section has a scan of its own, as records differ in size and in what they have to know of those before.
+// Refusal 5: the first bad cell record, if there is one; `least` is the least place that the next record may have.
+pub fn first_bad_cell(file: &[u8]) -> Option<usize>
     requires { Laid file.now }
-    ensures { result ≡ first (bad_cell (decode file.now).cells) (count file.now 0) }
+    ensures { result ≡ first_bad (bad_cell (decode file.now).cells) (count file.now 0) }
 {
     let cells = book::section_at(file, 0);
     let start = cells.start;
     let count = cells.count;
     let mut least: usize = 0;
-    let mut cell: usize = 0;
-    while cell < count {
+    for cell in 0..count {
         let at = start + cell * 8;
         if !cell_fits(file, at) {
-            return cell;
+            return Some(cell);
         }
         let place = book::place_at(file, at);
         if place < least {
-            return cell;
+            return Some(cell);
         }
         least = place + 1;
-        cell += 1;
     }
-    count
+    None
 }
 
 // Whether first ≤ last ≤ 7.
@@ -81,22 +80,20 @@ fn region_fits(file: &[u8], at: usize) -> bool
     numbers::u24_at(file, at + 5) == 0
 }
 
-// Refusal 6: the first bad region record, or the number of regions.
-pub fn first_bad_region(file: &[u8]) -> usize
+// Refusal 6: the first bad region record, if there is one.
+pub fn first_bad_region(file: &[u8]) -> Option<usize>
     requires { Laid file.now }
-    ensures { result ≡ first (bad_region (decode file.now).regions) (count file.now 1) }
+    ensures { result ≡ first_bad (bad_region (decode file.now).regions) (count file.now 1) }
 {
     let regions = book::section_at(file, 1);
     let start = regions.start;
     let count = regions.count;
-    let mut region: usize = 0;
-    while region < count {
+    for region in 0..count {
         if !region_fits(file, start + region * 8) {
-            return region;
+            return Some(region);
         }
-        region += 1;
     }
-    count
+    None
 }
 
 // The highest user that a right of this kind may name: 0 for a public one.
@@ -124,21 +121,19 @@ fn right_fits(file: &[u8], at: usize, regions: usize) -> bool
     numbers::byte_at(file, at + 3) == 0
 }
 
-// Refusal 7: the first bad right record, or the number of rights.
-pub fn first_bad_right(file: &[u8]) -> usize
+// Refusal 7: the first bad right record, if there is one.
+pub fn first_bad_right(file: &[u8]) -> Option<usize>
     requires { Laid file.now }
-    ensures { result ≡ first (bad_right (decode file.now)) (count file.now 2) }
+    ensures { result ≡ first_bad (bad_right (decode file.now)) (count file.now 2) }
 {
     let regions = book::section_at(file, 1).count;
     let rights = book::section_at(file, 2);
     let start = rights.start;
     let count = rights.count;
-    let mut right: usize = 0;
-    while right < count {
+    for right in 0..count {
         if !right_fits(file, start + right * 4, regions) {
-            return right;
+            return Some(right);
         }
-        right += 1;
     }
-    count
+    None
 }

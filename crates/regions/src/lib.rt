@@ -11,6 +11,15 @@ pub struct Range {
     pub last: usize,
 }
 
+impl Range {
+    // Whether the range holds `number`.
+    fn contains(self, number: usize) -> bool
+        ensures { result ≡ in_range self number }
+    {
+        self.first <= number && number <= self.last
+    }
+}
+
 // A region: a table with a range of owners and a range of lines.
 #[derive(Clone, Copy)]
 pub struct Region {
@@ -24,17 +33,11 @@ fn repeated(pattern: u64, width: usize, range: Range) -> u64
     requires { (pattern < 2 ^ width) × (width ≤ 8) }
     ensures { result ≡ repeated pattern width range 8 }
 {
-    let first = range.first;
-    let last = range.last;
     let mut word: u64 = 0;
-    let mut position: usize = 0;
-    while position < 8 {
-        if first <= position {
-            if position <= last {
-                word = word + (pattern << (width * position));
-            }
+    for position in 0..8 {
+        if range.contains(position) {
+            word += pattern << (width * position);
         }
-        position += 1;
     }
     word
 }
@@ -44,33 +47,17 @@ pub fn region_set(region: Region) -> [u64; 8]
     requires { region.table < 8 }
     ensures { result ≡ region_set 8 region }
 {
-    let table = region.table;
-    let lines = region.lines;
-    let owners = region.owners;
-    let row = repeated(1, 1, lines);
+    let row = repeated(1, 1, region.lines);
     let mut set = [0u64; 8];
-    set[table] = repeated(row, 8, owners);
+    set[region.table] = repeated(row, 8, region.owners);
     set
-}
-
-// Whether a range holds `number`.
-fn ranges(range: Range, number: usize) -> bool
-    ensures { result ≡ in_range range number }
-{
-    range.first <= number && number <= range.last
 }
 
 // Whether a region holds `place`, with no set made for it.
 pub fn holds(region: Region, place: usize) -> bool
     ensures { result ≡ in_region region place }
 {
-    if place / 64 != region.table {
-        return false;
-    }
-    let owners = region.owners;
-    if !ranges(owners, place / 8 % 8) {
-        return false;
-    }
-    let lines = region.lines;
-    ranges(lines, place % 8)
+    place / 64 == region.table
+        && region.owners.contains(place / 8 % 8)
+        && region.lines.contains(place % 8)
 }

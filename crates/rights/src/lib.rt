@@ -3,51 +3,44 @@
 
 ghost use Rattle.std.specs.Prelude.{◌≡◌};
 ghost use Rattle.book.specs.Start.{tabulate, right_set, public_set};
-ghost use Rattle.machine.specs.Script.{script_of, Runnable};
+ghost use Rattle.machine.specs.Script.{script_of};
+ghost use Rattle.machine.specs.Store.{right_number};
 
-use machine::Script;
+use machine::{Right, Script};
 
 // The places of all regions in the rights records of this kind for this user.
-fn right_set(code: &Script, kind: u8, user: usize) -> [u64; 8]
-    requires { Runnable code.now }
-    ensures { result ≡ right_set (script_of code.now) kind user }
+fn right_set(script: Script, kind: u8, user: usize) -> [u64; 8]
+    ensures { result ≡ right_set (script_of script.entry.bytes.now) kind user }
 {
+    let code = script.bytes;
     let mut set = [0u64; 8];
-    let mut right = numbers::u16_at(code, machine::RIGHTS_COUNT);
-    while 0 < right {
-        right -= 1;
+    for right in (0..numbers::u16_at(code, machine::RIGHTS_COUNT)).rev() {
         let at = machine::RIGHTS + 4 * right;
-        if code[at] == kind {
-            if numbers::byte_at(code, at + 1) == user {
-                let held = machine::region_places(code, numbers::byte_at(code, at + 2));
-                let next = places::union(held, set);
-                set = next;
-            }
+        if code[at] == kind && numbers::byte_at(code, at + 1) == user {
+            let held = machine::region_places(script, numbers::byte_at(code, at + 2));
+            let more = places::union(held, set);
+            set = more;
         }
     }
     set
 }
 
 // The public set.
-pub fn public_set(code: &Script) -> [u64; 8]
-    requires { Runnable code.now }
-    ensures { result ≡ public_set (script_of code.now) }
+pub fn public_set(script: Script) -> [u64; 8]
+    ensures { result ≡ public_set (script_of script.entry.bytes.now) }
 {
-    right_set(code, 0, 0)
+    right_set(script, 0, 0)
 }
 
-// The sets of the eight users: kind 1 read, 2 write.
-pub fn right_sets(code: &Script, kind: u8) -> [[u64; 8]; 8]
-    requires { Runnable code.now }
-    ensures { result ≡ tabulate (right_set (script_of code.now) kind) 8 }
+// The sets of the eight users for a right.
+pub fn right_sets(script: Script, right: Right) -> [[u64; 8]; 8]
+    ensures { result ≡ tabulate (right_set (script_of script.entry.bytes.now) (right_number right)) 8 }
 {
-    let none = [0u64; 8];
-    let mut sets = [none; 8];
-    let mut user: usize = 0;
-    while user < 8 {
-        let set = right_set(code, kind, user);
+    let kind = right.number();
+    let mut sets = [[0u64; 8]; 8];
+    for user in 0..8 {
+        let set = right_set(script, kind, user);
         sets[user] = set;
-        user += 1;
     }
     sets
 }

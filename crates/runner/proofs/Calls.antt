@@ -7,9 +7,11 @@ use lib.Dec.{eqb, leb}
 use lib.IntN.{ℤ}
 use lib.ListN.{length}
 use borrow.Author.Tests.{eqb-true, le-leb, lt-leb}
-use Rattle.book.specs.Refusals.{and_then, need, verdict}
+use Rattle.book.specs.Refusals.{and_then, need, verdict, refusal_of}
 use Rattle.book.specs.Start.{Lengths}
-use Rattle.book.specs.declared.Verdict.TheVariants as verdicts
+use Rattle.std.specs.Prelude.{Ok, Err}
+use Rattle.book.specs.declared.Reason.TheVariants as reasons
+use Rattle.book.specs.declared.Refusal.{Refusal}
 use Rattle.book.proofs.Chains.{both}
 use Rattle.book.proofs.Verdicts.{stops, need_stops}
 use Rattle.loader.specs.Load.{lent_fits}
@@ -31,22 +33,22 @@ module _ (file : List ℕ) (budget : ℕ) (amounts : List ℤ) (presence labels 
   before = lent amounts presence labels trace
 
   -- a call that is refused leaves all as it was
-  pub refuses : {number index : ℕ} (old : Label) → call_verdict file budget before ≡ verdicts.Refused number index
-      → (result (Refused number index) before ≡ call true file budget before) × (old ≡ obstacle_called file budget before old)
+  pub refuses : {refusal : Refusal} (old : Label) → call_verdict file budget before ≡ Err refusal
+      → (result (Refused refusal) before ≡ call true file budget before) × (old ≡ obstacle_called file budget before old)
   unfolding call answered obstacle_after
   refuses old e = (rw e, rw e)
 
   -- and one that is accepted runs
-  pub runs : {x : Result} {places : Label} (old : Label) → call_verdict file budget before ≡ verdicts.Accepted
-      → (x ≡ answered true file budget before verdicts.Accepted) × (places ≡ obstacle_after file budget before old verdicts.Accepted)
+  pub runs : {x : Result} {places : Label} (old : Label) → call_verdict file budget before ≡ Ok tt
+      → (x ≡ answered true file budget before (Ok tt)) × (places ≡ obstacle_after file budget before old (Ok tt))
       → (x ≡ call true file budget before) × (places ≡ obstacle_called file budget before old)
   unfolding call
   runs old e r = (rw e r.0, rw e r.1)
 
   -- 1: the budget, or the trace, is outside its bounds
-  pub budget_over : 1000000 < budget → call_verdict file budget before ≡ verdicts.Refused 1 0
+  pub budget_over : 1000000 < budget → call_verdict file budget before ≡ Err (refusal_of reasons.Lent 0)
   unfolding call_verdict
-  budget_over h = stops (verdict file) (need_stops 1 (rw (
+  budget_over h = stops (verdict file) (need_stops reasons.Lent (rw (
     lt-leb budget 1000000 h,
     and-false (leb (length trace) 65536),
     and-false (eqb (length labels) 4096),
@@ -54,9 +56,9 @@ module _ (file : List ℕ) (budget : ℕ) (amounts : List ℤ) (presence labels 
     and-false (eqb (length amounts) 512),
   )))
 
-  pub trace_over : 65536 < length trace → call_verdict file budget before ≡ verdicts.Refused 1 0
+  pub trace_over : 65536 < length trace → call_verdict file budget before ≡ Err (refusal_of reasons.Lent 0)
   unfolding call_verdict
-  trace_over h = stops (verdict file) (need_stops 1 (rw (
+  trace_over h = stops (verdict file) (need_stops reasons.Lent (rw (
     lt-leb (length trace) 65536 h,
     and-false (eqb (length labels) 4096),
     and-false (eqb (length presence) 8),
@@ -64,15 +66,15 @@ module _ (file : List ℕ) (budget : ℕ) (amounts : List ℤ) (presence labels 
   )))
 
   -- 1: lent memory for cells has other lengths
-  pub lengths_other : lent_fits amounts presence labels ≡ false → call_verdict file budget before ≡ verdicts.Refused 1 0
+  pub lengths_other : lent_fits amounts presence labels ≡ false → call_verdict file budget before ≡ Err (refusal_of reasons.Lent 0)
   unfolding call_verdict
-  lengths_other e = stops (verdict file) (need_stops 1 (wider (eqb (length amounts) 512) (eqb (length presence) 8) (eqb (length labels) 4096) _ e))
+  lengths_other e = stops (verdict file) (need_stops reasons.Lent (wider (eqb (length amounts) 512) (eqb (length presence) 8) (eqb (length labels) 4096) _ e))
 
   -- none of these: the file's verdict decides
   pub file_decides : budget ≤ 1000000 → length trace ≤ 65536 → lent_fits amounts presence labels ≡ true → call_verdict file budget before ≡ verdict file
   unfolding call_verdict and_then need
   file_decides b t f =
-      rw (le-leb budget 1000000 b, le-leb (length trace) 65536 t, and-true (eqb (length labels) 4096)) (ap (λ (y : Bool). and_then (need 1 y) (verdict file)) f)
+      rw (le-leb budget 1000000 b, le-leb (length trace) 65536 t, and-true (eqb (length labels) 4096)) (ap (λ (y : Bool). and_then (need reasons.Lent y) (verdict file)) f)
 
   pub lengths_are : lent_fits amounts presence labels ≡ true → Lengths amounts presence labels
   lengths_are f =

@@ -12,7 +12,8 @@ use Rattle.monitor.specs.Labelled.{Lab}
 use Rattle.monitor.specs.Run.{Cell}
 use Rattle.monitor.specs.Call.{cells_of, amounts_in, presence_in, labels_in}
 use Rattle.monitor.proofs.Memory.{Sizes, amounts_kept, presence_kept}
-use Rattle.machine.specs.Store.{row_at, present_row, cells_held}
+use Rattle.machine.specs.Store.{cells_held}
+use Rattle.machine.specs.declared.lent.Sets.{Sets}
 
 -- the label of one more cell: that the store left the length tells that the label has eight words
 pub labels_turn : (cells : ℕ → Lab Cell) (labels out : List ℕ) (n : ℕ) → 8 * n + 8 ≤ length labels → take (8 * n) labels ≡ labels_in cells n
@@ -31,11 +32,11 @@ labels_turn cells labels out n h is e long =
     ∙ ap (labels_in cells) (sym (add-one n))
 
 -- amounts and presence that were copied
-module _ (amounts : List ℤ) (sets : List (List ℕ)) (labels : List ℕ) (h : Sizes amounts (row_at sets present_row) labels) where
+module _ (amounts : List ℤ) (sets : Sets) (labels : List ℕ) (h : Sizes amounts sets.present labels) where
   pub amounts_left : amounts ≡ amounts_in (cells_held amounts sets)
   unfolding amounts_in cells_held cells_of
-  amounts_left = sym (amounts_kept amounts (row_at sets present_row) labels h)
+  amounts_left = sym (amounts_kept amounts sets.present labels h)
 
-  pub presence_left : row_at sets present_row ≡ presence_in (cells_held amounts sets)
+  pub presence_left : sets.present ≡ presence_in (cells_held amounts sets)
   unfolding presence_in cells_held cells_of
-  presence_left = sym (presence_kept amounts (row_at sets present_row) labels h)
+  presence_left = sym (presence_kept amounts sets.present labels h)

@@ -4,23 +4,22 @@
 ghost use Rattle.std.specs.Prelude.{◌≡◌, false, ◌+◌, ◌≤◌, ◌<◌, ℕ, length, get_or};
 ghost use Rattle.book.specs.Records.{programs_format, triggers_format};
 ghost use Rattle.book.specs.Layout.{count, section, decode};
-ghost use Rattle.book.specs.Refusals.{first, Laid, bad_node, bad_program, bad_trigger, is_command, program_fits, reaches, trigger_fits};
-ghost use Rattle.kinds.specs.Table.{kinds_table};
+ghost use Rattle.book.specs.Refusals.{first, first_bad, Laid, bad_node, bad_program, bad_trigger, is_command, program_fits, reaches, trigger_fits};
 
 // Whether there is a node `i` and it is a command.
-fn is_command(table: &[[u8; 8]; 27], file: &[u8], nodes: book::Section, i: usize) -> bool
-    requires { Laid file.now × (nodes ≡ section file.now 3) × (table.now ≡ kinds_table) }
+fn is_command(file: &[u8], nodes: book::Section, i: usize) -> bool
+    requires { Laid file.now × (nodes ≡ section file.now 3) }
     ensures { result ≡ is_command (decode file.now) i }
 {
     if nodes.count <= i {
         return false;
     }
-    kinds::sort_at(table, file, nodes, i) == kinds::COMMAND
+    kinds::sort_at(file, nodes, i) == kinds::COMMAND
 }
 
 // Whether the program record at byte `at` names a user, and a root that is a command.
-fn program_fits(table: &[[u8; 8]; 27], file: &[u8], nodes: book::Section, at: usize) -> bool
-    requires { Laid file.now × (nodes ≡ section file.now 3) × (at + 4 ≤ length file.now) × (table.now ≡ kinds_table) }
+fn program_fits(file: &[u8], nodes: book::Section, at: usize) -> bool
+    requires { Laid file.now × (nodes ≡ section file.now 3) × (at + 4 ≤ length file.now) }
     ensures { result ≡ program_fits (decode file.now) (programs_format.read file.now at) }
 {
     if 7 < file[at] {
@@ -29,38 +28,34 @@ fn program_fits(table: &[[u8; 8]; 27], file: &[u8], nodes: book::Section, at: us
     if file[at + 1] != 0 {
         return false;
     }
-    is_command(table, file, nodes, numbers::u16_at(file, at + 2))
+    is_command(file, nodes, numbers::u16_at(file, at + 2))
 }
 
-// The first bad program, or their number if there is none.
-pub fn first_bad_program(file: &[u8]) -> usize
+// The first bad program, if there is one.
+pub fn first_bad_program(file: &[u8]) -> Option<usize>
     requires { Laid file.now }
-    ensures { result ≡ first (bad_program (decode file.now)) (count file.now 4) }
+    ensures { result ≡ first_bad (bad_program (decode file.now)) (count file.now 4) }
 {
     let nodes = book::section_at(file, 3);
     let programs = book::section_at(file, 4);
-    let table = kinds::table();
-    let mut program: usize = 0;
-    while program < programs.count {
+    for program in 0..programs.count {
         let at = programs.start + 4 * program;
-        if !program_fits(&table, file, nodes, at) {
-            return program;
+        if !program_fits(file, nodes, at) {
+            return Some(program);
         }
-        program += 1;
     }
-    program
+    None
 }
 
 // Whether the trigger record at byte `at` names a region, an event, a user, and a body that is a command and not flagged.
 fn trigger_fits(
-    table: &[[u8; 8]; 27],
     file: &[u8],
     nodes: book::Section,
     regions: usize,
     flags: &[bool; 1024],
     at: usize,
 ) -> bool
-    requires laid { Laid file.now × (nodes ≡ section file.now 3) × (regions ≡ count file.now 1) × (at + 8 ≤ length file.now) × (table.now ≡ kinds_table) }
+    requires laid { Laid file.now × (nodes ≡ section file.now 3) × (regions ≡ count file.now 1) × (at + 8 ≤ length file.now) }
     requires by_index { (i : ℕ) → i < count file.now 3 → get_or flags.now i false ≡ reaches (decode file.now) (count file.now 3) i }
     ensures { result ≡ trigger_fits (decode file.now) (triggers_format.read file.now at) }
 {
@@ -80,7 +75,7 @@ fn trigger_fits(
         return false;
     }
     let body = numbers::u16_at(file, at + 4);
-    if !is_command(table, file, nodes, body) {
+    if !is_command(file, nodes, body) {
         return false;
     }
     if numbers::u16_at(file, at + 6) != 0 {
@@ -89,24 +84,21 @@ fn trigger_fits(
     !flags[body]
 }
 
-// The first bad trigger, or their number if there is none.
-pub fn first_bad_trigger(file: &[u8]) -> usize
+// The first bad trigger, if there is one.
+pub fn first_bad_trigger(file: &[u8]) -> Option<usize>
     requires laid { Laid file.now }
     requires file_value { first (bad_node (decode file.now)) (count file.now 3) ≡ count file.now 3 }
-    ensures { result ≡ first (bad_trigger (decode file.now)) (count file.now 5) }
+    ensures { result ≡ first_bad (bad_trigger (decode file.now)) (count file.now 5) }
 {
     let regions = book::section_at(file, 1);
     let nodes = book::section_at(file, 3);
     let triggers = book::section_at(file, 5);
     let flags = reaching::reaching_flags(file, nodes);
-    let table = kinds::table();
-    let mut trigger: usize = 0;
-    while trigger < triggers.count {
+    for trigger in 0..triggers.count {
         let at = triggers.start + 8 * trigger;
-        if !trigger_fits(&table, file, nodes, regions.count, &flags, at) {
-            return trigger;
+        if !trigger_fits(file, nodes, regions.count, &flags, at) {
+            return Some(trigger);
         }
-        trigger += 1;
     }
-    trigger
+    None
 }

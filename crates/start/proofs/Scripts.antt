@@ -11,7 +11,7 @@ use Rattle.book.specs.Records.{Format, records, Book, NodeRecord, regions_format
 use Rattle.book.specs.Kinds.{Fields, fields_of}
 use Rattle.book.specs.Layout.{count, section, section_records, decode}
 use Rattle.book.specs.Refusals.{right_fits, bad_right, node_at, field_fits, node_fits, is_command, program_fits, bad_program, forbidden, child, reaches, trigger_fits, bad_trigger, verdict}
-use Rattle.book.specs.declared.Verdict.TheVariants.{Accepted}
+use Rattle.std.specs.Prelude.{Ok}
 use Rattle.book.proofs.Accepted.{placed, accepted, regions_inside, rights_inside, nodes_inside, programs_inside, triggers_inside}
 use Rattle.book.proofs.Decoded.{count_regions, count_rights, count_nodes, count_programs, count_triggers}
 use Rattle.monitor.specs.Call.{script}
@@ -35,7 +35,7 @@ trigger_same : (b : Book) (i : ℕ) → bad_trigger (script b) i ≡ bad_trigger
 unfolding bad_trigger trigger_fits is_command script
 trigger_same b i = rw (reaches_same b)
 
-sound : (file : List ℕ) → verdict file ≡ Accepted → Sound (script (decode file))
+sound : (file : List ℕ) → verdict file ≡ Ok tt → Sound (script (decode file))
 unfolding script bad_right right_fits field_fits node_fits is_command program_fits bad_program
 sound file v =
     let good = accepted file v in
@@ -55,7 +55,7 @@ sound file v =
 
 -- ---- the copies, as the contracts say them
 
-module _ (file : List ℕ) (v : verdict file ≡ Accepted) (b : Bytes file) where
+module _ (file : List ℕ) (v : verdict file ≡ Ok tt) (b : Bytes file) where
   -- the records of a section that was copied, and stood below byte m while the rest was
   section_held : {A : Type 0} {f : Format A} → Codec f → (i at m n : ℕ) (c code : List ℕ) → Part file i f.size at c → Stays m c code → n ≡ count file i
       → (section file i).start + f.size * count file i ≤ length file → at + f.size * count file i ≤ m → m ≤ length code → records f n at code ≡ section_records f i file

@@ -5,9 +5,9 @@ use Rattle.book.specs.Records.{LabelRecord, Book}
 use Rattle.book.specs.Kinds.{cost_of}
 use Rattle.book.specs.Layout.{count, section}
 use Rattle.book.specs.Start.{remembered, public_set, read_sets, write_sets}
-use Rattle.monitor.specs.Call.{rows}
 use Rattle.machine.specs.Script.{prices_start, held_count}
-use Rattle.machine.specs.Store.{row_at, present_row, public_row, read_row, write_row, label_row, set_rows, users_rows, idle}
+use Rattle.machine.specs.Store.{row_at, idle}
+use Rattle.machine.specs.declared.lent.Sets.{Sets}
 
 -- the first n bytes are what they were
 pub record Stays (n : ℕ) (old new : List ℕ) : Type 0 where
@@ -25,11 +25,11 @@ abbrev pub Counts : List ℕ → List ℕ → Type 0
 Counts file code = (i : ℕ) → i < 5 → held_count code i ≡ count file (i + 1)
 
 -- the cells that are present, the rights of the book's records, for each cell the label that the label records give it, and no posting under way
-pub record SetsOf (b : Book) (records : List LabelRecord) (present : List ℕ) (sets : List (List ℕ)) : Type 0 where
-  pub long : length sets ≡ set_rows
-  pub present_is : row_at sets present_row ≡ present
-  pub public_is : row_at sets public_row ≡ public_set b
-  pub read_are : users_rows sets read_row ≡ rows (read_sets b)
-  pub write_are : users_rows sets write_row ≡ rows (write_sets b)
-  pub labels_are : (place : ℕ) → place < 512 → row_at sets (label_row + place) ≡ remembered records place
+pub record SetsOf (b : Book) (records : List LabelRecord) (present : List ℕ) (sets : Sets) : Type 0 where
+  pub long : length sets.labels ≡ 512
+  pub present_is : sets.present ≡ present
+  pub public_is : sets.public ≡ public_set b
+  pub read_are : sets.read ≡ read_sets b
+  pub write_are : sets.write ≡ write_sets b
+  pub labels_are : (place : ℕ) → place < 512 → row_at sets.labels place ≡ remembered records place
   pub idles : idle sets ≡ true

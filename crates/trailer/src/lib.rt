@@ -98,8 +98,7 @@ pub fn sections_fit(file: &[u8]) -> bool
         return false;
     }
     let mut end: usize = 0;
-    let mut pair: usize = 0;
-    while pair < sections {
+    for pair in 0..sections {
         let at = pair_at(length, pair);
         if numbers::u16_at(file, at) + end != length {
             return false;
@@ -109,7 +108,6 @@ pub fn sections_fit(file: &[u8]) -> bool
             return false;
         }
         end = end + count * SIZE[pair];
-        pair += 1;
     }
     end + behind == length
 }

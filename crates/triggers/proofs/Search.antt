@@ -6,9 +6,9 @@ use Prim.Native.Nat.{ℕ, suc, ◌+◌, ◌-◌, ◌≤◌, ◌<◌}
 use native.Mathlib.Numerals.{add-one}
 use native.Mathlib.Omega.{arith}
 use lib.ListN.{length}
+use Rattle.std.specs.Prelude.{Some, None}
 use Rattle.monitor.specs.Rules.{trigger_at, fitting}
 use Rattle.machine.specs.Script.{script_of}
-use Rattle.triggers.specs.declared.Fitting.TheVariants as fitted
 use Rattle.triggers.specs.Search.{first_fitting}
 
 module _ (code : List ℕ) (event place t : ℕ) where
@@ -16,7 +16,7 @@ module _ (code : List ℕ) (event place t : ℕ) where
   count = length (script_of code).triggers
 
   -- there is none from the end on
-  pub first_none : count ≤ t → first_fitting code event place (count - t) t ≡ fitted.None
+  pub first_none : count ≤ t → first_fitting code event place (count - t) t ≡ None
   unfolding first_fitting
   first_none h =
       let none : count - t ≡ 0 = omega arith in
@@ -25,7 +25,7 @@ module _ (code : List ℕ) (event place t : ℕ) where
   module _ (h : t < count) where
     first_chosen : first_fitting code event place (count - t) t
         ≡ cond (fitting (script_of code) event place (trigger_at (script_of code) t))
-        (fitted.Trigger t (trigger_at (script_of code) t).user (trigger_at (script_of code) t).body)
+        (Some (record { number = t; user = (trigger_at (script_of code) t).user; body = (trigger_at (script_of code) t).body }))
         (first_fitting code event place (count - suc t) (suc t))
     unfolding first_fitting
     first_chosen =
@@ -38,5 +38,5 @@ module _ (code : List ℕ) (event place t : ℕ) where
 
     pub first_fits : {r : Bool} {user body : ℕ} → r ≡ fitting (script_of code) event place (trigger_at (script_of code) t) → r ≡ true
         → user ≡ (trigger_at (script_of code) t).user → body ≡ (trigger_at (script_of code) t).body
-        → first_fitting code event place (count - t) t ≡ fitted.Trigger t user body
+        → first_fitting code event place (count - t) t ≡ Some (record { number = t; user = user; body = body })
     first_fits is e eu eb = rw (first_chosen, ← is, e, eu, eb)

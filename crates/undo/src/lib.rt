@@ -2,95 +2,65 @@
 #![tactic(auto)]
 
 ghost use Rattle.std.specs.Prelude.{◌≡◌, true, false, ◌<◌};
-ghost use Rattle.machine.specs.Store.{idle, kept_amount};
+ghost use Rattle.machine.specs.Store.{idle};
 ghost use Rattle.undo.specs.Undo.{Begins, Keeps, TakesBack, Ends};
 
-use machine::{Outcome, Sets};
+use machine::{Sets, Stopped};
 
-// Begins a posting, unless one is under way, and says whether it did: nothing is touched yet, and which places are present is kept. The slice tells
-// the proof how many rows there are.
+// Begins a posting, unless one is under way, and says whether it did: nothing is touched yet, and which places are present is kept.
 pub fn begin(sets: &mut Sets) -> bool
     ensures { (result ≡ idle sets.old) × (result ≡ true → Begins sets.old sets.new)
         × (result ≡ false → sets.new ≡ sets.old) }
 {
-    let all: &[[u64; 8]] = sets;
-    if sets[machine::POSTING][0] != 0 {
+    if sets.posting.under_way {
         return false;
     }
-    let present = sets[machine::PRESENT];
-    let under_way = [1u64; 8];
-    let none = [0u64; 8];
-    sets[machine::POSTING] = under_way;
-    sets[machine::TOUCHED] = none;
-    sets[machine::KEPT_PRESENT] = present;
+    sets.posting.under_way = true;
+    sets.posting.touched = [0u64; 8];
+    sets.posting.present = sets.present;
     true
 }
 
-// Keeps the cell at `place` as it is, unless the posting has touched it before. The slice, and `eight` of two rows, tell the proof how many
-// rows there are, and how many words those two have.
+// Keeps the cell at `place` as it is, unless the posting has touched it before. `eight` tells the proof how many words the touched places have.
 pub fn keep(amounts: &[i32; 512], sets: &mut Sets, place: usize)
     requires { place < 512 }
     ensures { Keeps amounts.now sets.old place sets.new }
 {
-    let all: &[[u64; 8]] = sets;
-    let touched = sets[machine::TOUCHED];
-    places::eight(touched);
-    let before = places::contains(touched, place);
-    if before {
+    let posting = &mut sets.posting;
+    places::eight(posting.touched);
+    if places::contains(posting.touched, place) {
         return;
     }
-    let kept = sets[machine::KEPT_AMOUNTS + place / 8];
-    places::eight(kept);
     let one = places::single(place);
     let word = place / 64;
-    sets[machine::TOUCHED][word] = touched[word] | one[word];
-    let bits = numbers::bits_of(amounts[place]);
-    sets[machine::KEPT_AMOUNTS + place / 8][place % 8] = bits as u64;
-    let label = sets[machine::LABELS + place];
-    sets[machine::KEPT_LABELS + place] = label;
+    posting.touched[word] |= one[word];
+    posting.amounts[place] = amounts[place];
+    posting.labels[place] = sets.labels[place];
 }
 
-// The amount that is kept of the cell at `place`.
-fn kept_amount(sets: &Sets, place: usize) -> i32
-    requires { place < 512 }
-    ensures { result ≡ kept_amount sets.now place }
-{
-    let word = sets[machine::KEPT_AMOUNTS + place / 8][place % 8];
-    numbers::signed((word % 4294967296) as u32)
-}
-
-// Makes all cells what they were when the posting began. A stop ends the run, so that this is done once at most. The slices and `eight` tell
-// the proof how long the arrays are.
+// Makes all cells what they were when the posting began. A stop ends the run, so that this is done once at most. `eight` tells the proof how many
+// words the touched places have.
 fn take_back(amounts: &mut [i32; 512], sets: &mut Sets)
     ensures { TakesBack amounts.old sets.old amounts.new sets.new }
 {
-    let all: &[[u64; 8]] = sets;
-    let all_amounts: &[i32] = amounts;
-    let touched = sets[machine::TOUCHED];
+    let touched = sets.posting.touched;
     places::eight(touched);
-    let present = sets[machine::KEPT_PRESENT];
-    sets[machine::PRESENT] = present;
-    let mut place: usize = 0;
-    while place < 512 {
+    sets.present = sets.posting.present;
+    for place in 0..512 {
         if places::contains(touched, place) {
-            let amount = kept_amount(sets, place);
-            amounts[place] = amount;
-            let label = sets[machine::KEPT_LABELS + place];
-            sets[machine::LABELS + place] = label;
+            amounts[place] = sets.posting.amounts[place];
+            sets.labels[place] = sets.posting.labels[place];
         }
-        place += 1;
     }
 }
 
-// Ends the posting that is under way; one that stopped is taken back. The slice tells the proof how many rows there are.
-pub fn end(outcome: Outcome, amounts: &mut [i32; 512], sets: &mut Sets)
+// Ends the posting that is under way; one that stopped is taken back.
+pub fn end(outcome: Result<(), Stopped>, amounts: &mut [i32; 512], sets: &mut Sets)
     ensures { Ends outcome amounts.old sets.old amounts.new sets.new }
 {
-    let all: &[[u64; 8]] = sets;
-    let ended = [0u64; 8];
-    sets[machine::POSTING] = ended;
+    sets.posting.under_way = false;
     match outcome {
-        Outcome::Done => {}
-        Outcome::Stopped => take_back(amounts, sets),
+        Ok(()) => {}
+        Err(Stopped) => take_back(amounts, sets),
     }
 }

@@ -11,7 +11,7 @@ use Rattle.book.specs.Records.{CellRecord, LabelRecord, cells_format, labels_for
 use Rattle.book.specs.Layout.{count, label_section, decode}
 use Rattle.book.specs.Refusals.{verdict}
 use Rattle.book.specs.Encode.{other_sections, tail_bytes, encode, cells_from, label_record, labels_from, with_cells}
-use Rattle.book.specs.declared.Verdict.TheVariants.{Accepted}
+use Rattle.std.specs.Prelude.{Ok}
 use Rattle.book.proofs.Decoded.{count_regions, count_rights, count_nodes, count_programs, count_triggers}
 use Rattle.book.proofs.Accepted.{placed, labels_inside}
 use Rattle.writer.specs.Write.{rewritten}
@@ -23,7 +23,7 @@ use Rattle.encoder.proofs.Writes.{other_label, picked_few, cells_below, labels_b
 use Rattle.writer.proofs.Trailer.{Counts, counts_of, tail_of}
 use Rattle.writer.proofs.Files.{tail_is, others_same, others_end, others_few}
 
-module _ (s : List ℕ) (b : Bytes s) (v : verdict s ≡ Accepted) (amounts : List ℤ) (presence labels : List ℕ) where
+module _ (s : List ℕ) (b : Bytes s) (v : verdict s ≡ Ok tt) (amounts : List ℤ) (presence labels : List ℕ) where
   abbrev pub cells : List CellRecord
   cells = cells_from amounts presence 512 0
 

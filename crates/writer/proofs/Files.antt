@@ -12,7 +12,7 @@ use Rattle.book.specs.Records.{Format, records, section_bytes, Book, cells_forma
 use Rattle.book.specs.Layout.{trailer, remembers, distance, count, section, label_section, section_records, decode}
 use Rattle.book.specs.Refusals.{length_fits, mark_fits, sections_fit, verdict}
 use Rattle.book.specs.declared.Section.{Section}
-use Rattle.book.specs.declared.Verdict.TheVariants.{Accepted}
+use Rattle.std.specs.Prelude.{Ok}
 use Rattle.book.proofs.Decoded.{count_cells, count_regions, count_rights, count_nodes, count_programs, count_triggers, count_labels}
 use Rattle.book.proofs.Accepted.{Sited, placed, cells_inside, regions_inside, rights_inside, nodes_inside, programs_inside, triggers_inside, labels_inside}
 use Rattle.book.specs.Encode.{six_extents, other_sections, tail_bytes, encode}
@@ -164,7 +164,7 @@ behind : {s x y : List ℕ} {at a b : ℕ} → Part s at a x → Part s (at + a)
 behind {s} {x} {y} {at} {a} {b} e f =
     record { is = ap₂ (λ (x y : List ℕ). x ++ y) e.is f.is ∙ sym (rw (take-add a b (drop at s), drop-drop a at s)) }
 
-module _ (s : List ℕ) (b : Bytes s) (v : verdict s ≡ Accepted) where
+module _ (s : List ℕ) (b : Bytes s) (v : verdict s ≡ Ok tt) where
   abbrev n : Counts
   n = found s
 

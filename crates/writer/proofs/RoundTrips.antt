@@ -9,7 +9,7 @@ use lib.Dec.{eqb}
 use lib.IntN.{ℤ, pos}
 use lib.ListN.{length, get_or, take, drop}
 use lib.Seq.{take_at}
-use borrow.Author.Tests.{lt-ltb, le-leb, eq-eqb, eqb-true}
+use borrow.Author.Tests.{lt-ltb, eqb-true}
 use Rattle.places.specs.Sets.{Words, has}
 use Rattle.places.proofs.Sets.{has_set_of, length_set_of, set_of_has}
 use Rattle.places.proofs.Shapes.{set_of_cong}
@@ -17,13 +17,12 @@ use Rattle.labels.proofs.Labels.{length_by}
 use Rattle.book.specs.Bytes.{Bytes}
 use Rattle.book.specs.Records.{Book, records, labels_format}
 use Rattle.book.specs.Layout.{trailer, remembers, section, decode}
-use Rattle.book.specs.Refusals.{verdict}
+use Rattle.book.specs.Refusals.{verdict, Verdict}
 use Rattle.book.specs.Start.{Lengths, amount_at, or_zero, is_there, start_amounts, start_presence, remembered, start_labels}
 use Rattle.book.specs.Encode.{encode, cells_from, labels_from, with_cells}
 use Rattle.book.specs.declared.Section.{Section}
-use Rattle.book.specs.declared.Verdict.{Verdict}
-use Rattle.book.specs.declared.Verdict.TheVariants.{Accepted, Refused}
-use Rattle.book.proofs.Chains.{both, pass}
+use Rattle.std.specs.Prelude.{Ok, Err}
+use Rattle.book.proofs.Chains.{both}
 use Rattle.book.proofs.Verdicts.{accepts_both, need_accepts}
 use Rattle.book.proofs.Decoded.{count_cells, count_labels}
 use Rattle.book.proofs.Accepted.{accepted}
@@ -31,25 +30,26 @@ use Rattle.book.proofs.Remembered.{length_remembered}
 use Rattle.book.proofs.Tabulate.{length_tabulate, tabulate_at, tabulate_cong}
 use Rattle.loader.specs.Load.{Loaded, load_call}
 use Rattle.loader.proofs.Loads.{zero_if}
-use Rattle.loader.proofs.Calls.{lent, load_accepted}
-use Rattle.writer.specs.declared.Written.TheVariants.{Wrote}
+use Rattle.loader.proofs.Calls as loader
+use Rattle.loader.proofs.Calls.{load_accepted}
 use Rattle.writer.specs.Write.{write_verdict, rewritten, write_answer, WriteCall, write_call}
 use Rattle.writer.specs.Claims.{Amounts, SameBytes, WrittenBack, SameBook, present_amounts, Rewritten, ReadsBack}
 use Rattle.writer.proofs.Cells.{cells_amount, cells_are}
 use Rattle.writer.proofs.Labels.{labels_back, labels_are}
 use Rattle.writer.proofs.Files.{sound_found, passes_version, encode_decode, decode_encode}
-use Rattle.writer.proofs.Calls.{write_accepted, written, write_by}
+use Rattle.writer.proofs.Calls.{write_accepted, written, write_by, file_decides}
 use Rattle.writer.proofs.Rewritten.{encode_accepted, old_book, sound, new_accepted}
+use Rattle.book.specs.declared.Reason.TheVariants as reasons
 
 -- what loading an accepted file leaves
-loads : (file : List ℕ) → verdict file ≡ Accepted → (amounts : List ℤ) (presence labels : List ℕ) → Lengths amounts presence labels
+loads : (file : List ℕ) → verdict file ≡ Ok tt → (amounts : List ℤ) (presence labels : List ℕ) → Lengths amounts presence labels
     → load_call file amounts presence labels
-    ≡ record { answer = Accepted; amounts = start_amounts (decode file); presence = start_presence (decode file); labels = start_labels (decode file) }
-loads file v amounts presence labels l = sym (load_accepted file amounts presence labels (lent l) (verdict file) refl _ _ _ v refl refl refl)
+    ≡ record { answer = Ok tt; amounts = start_amounts (decode file); presence = start_presence (decode file); labels = start_labels (decode file) }
+loads file v amounts presence labels l = sym (load_accepted file amounts presence labels _ _ _ (loader.file_decides file amounts presence labels l v) refl refl refl)
 
 -- ---- a file that is loaded and written back
 
-module _ (file : List ℕ) (b : Bytes file) (v : verdict file ≡ Accepted) where
+module _ (file : List ℕ) (b : Bytes file) (v : verdict file ≡ Ok tt) where
   abbrev book : Book
   book = decode file
 
@@ -82,16 +82,17 @@ module _ (file : List ℕ) (b : Bytes file) (v : verdict file ≡ Accepted) wher
       })
 
   writes : (out : List ℕ) → 60000 ≤ length out
-      → write_call file (start_amounts book) (start_presence book) (start_labels book) out ≡ record { answer = Wrote (length new); out = new ++ drop (length new) out }
+      → write_call file (start_amounts book) (start_presence book) (start_labels book) out ≡ record { answer = Ok (length new); out = new ++ drop (length new) out }
   unfolding start_amounts start_presence start_labels
   writes out h =
       sym
       (write_accepted file (start_amounts book) (start_presence book) (start_labels book) out
-      (pass (eq-eqb _ 512 (length_tabulate _ 512)) (pass (eq-eqb _ 8 (length_set_of 8 _)) (pass (eq-eqb _ 4096 (length_by (remembered book.labels) (length_remembered book.labels) 512)) (le-leb 60000 (length out) h))))
-      (verdict file) refl (length new) (new ++ drop (length new) out) v refl refl)
+      (file_decides file (start_amounts book) (start_presence book) (start_labels book) out
+      (record { amounts_are = length_tabulate _ 512; presence_is = length_set_of 8 _; labels_are = length_by (remembered book.labels) (length_remembered book.labels) 512 }) h v)
+      refl refl)
 
   -- what the call has written
-  written_back : (out : List ℕ) (w : WriteCall) → w ≡ record { answer = Wrote (length new); out = new ++ drop (length new) out } → WrittenBack file w
+  written_back : (out : List ℕ) (w : WriteCall) → w ≡ record { answer = Ok (length new); out = new ++ drop (length new) out } → WrittenBack file w
   written_back out w e =
       let bytes : take (length new) w.out ≡ encode book = ap (λ (x : WriteCall). take (length new) x.out) e ∙ take_at new (drop (length new) out) (length new) refl ∙ new_is in
       let same : decode (take (length new) w.out) ≡ book = ap decode bytes ∙ decode_encode book (sound_found file b v) in record {
@@ -114,7 +115,7 @@ unfolding SameBytes
 same_bytes file b v two_is amounts presence labels l out h =
     ap (λ (r : Loaded). write_call file r.amounts r.presence r.labels out) (loads file v amounts presence labels l)
     ∙ writes file b v out h
-    ∙ ap (λ (x : List ℕ). record { answer = Wrote (length x); out = x ++ drop (length x) out }) (new_is file b v ∙ encode_decode file b v two_is)
+    ∙ ap (λ (x : List ℕ). record { answer = Ok (length x); out = x ++ drop (length x) out }) (new_is file b v ∙ encode_decode file b v two_is)
 
 pub same_book : SameBook
 unfolding SameBook
@@ -125,12 +126,12 @@ same_book file b v amounts presence labels l out h =
 -- ---- a book that is written and loaded
 
 -- a call that answers a length has accepted
-wrote : (v : Verdict) (new : List ℕ) (n : ℕ) → write_answer v new ≡ Wrote n → (v ≡ Accepted) × (n ≡ length new)
-wrote Accepted new n e = (refl, cc)
-wrote (Refused number index) new n e = (cc, cc)
+wrote : (v : Verdict) (new : List ℕ) (n : ℕ) → write_answer v new ≡ Ok n → (v ≡ Ok tt) × (n ≡ length new)
+wrote (Ok _) new n e = (refl, cc)
+wrote (Err refusal) new n e = (cc, cc)
 
 module _
-    (file : List ℕ) (b : Bytes file) (v : verdict file ≡ Accepted)
+    (file : List ℕ) (b : Bytes file) (v : verdict file ≡ Ok tt)
     (amounts : List ℤ) (fit : Amounts amounts)
     (presence : List ℕ) (words : Words presence) (eight : length presence ≡ 8)
     (labels : List ℕ) (label_words : Words labels) (long : length labels ≡ 4096) where
@@ -144,7 +145,7 @@ module _
   unfolding rewritten
   decoded = decode_encode written_book (sound file b v amounts presence labels fit label_words long)
 
-  passes : verdict made ≡ Accepted
+  passes : verdict made ≡ Ok tt
   unfolding rewritten
   passes = new_accepted file b v amounts presence labels fit label_words long
 
@@ -191,19 +192,19 @@ module _
     presence_starts = presence_back;
     labels_start = labels_again;
     loads = λ amounts' presence' labels' l.
-        sym (load_accepted made amounts' presence' labels' (lent l) (verdict made) refl _ _ _ passes (sym amounts_back) (sym presence_back) (sym labels_again));
+        sym (load_accepted made amounts' presence' labels' _ _ _ (loader.file_decides made amounts' presence' labels' l passes) (sym amounts_back) (sym presence_back) (sym labels_again));
   }
 
 pub reads_back : ReadsBack
 unfolding ReadsBack write_verdict
 reads_back file b amounts fit presence words labels label_words out n e =
     let new : List ℕ = rewritten file amounts presence labels in
-    let w = wrote (write_verdict file amounts presence labels out) new n (ap (λ (r : WriteCall). r.answer) (sym (write_by file amounts presence labels out)) ∙ e) in
+    let w = wrote (write_verdict file amounts presence labels out) new n (ap (λ (r : WriteCall). r.answer) (write_by file amounts presence labels out refl) ∙ e) in
     let ways = accepts_both _ _ w.0 in
-    let lengths = both (eqb (length amounts) 512) _ (need_accepts 1 _ ways.0) in
+    let lengths = both (eqb (length amounts) 512) _ (need_accepts reasons.Lent _ ways.0) in
     let presence_is = both (eqb (length presence) 8) _ lengths.1 in
     let labels_are = both (eqb (length labels) 4096) _ presence_is.1 in
     let out_is : (write_call file amounts presence labels out).out ≡ new ++ drop (length new) out =
-    ap (λ (r : WriteCall). r.out) (write_by file amounts presence labels out ∙ ap (written file amounts presence labels out) w.0) in
+    ap (λ (r : WriteCall). r.out) (sym (write_by file amounts presence labels out refl) ∙ ap (written file amounts presence labels out) w.0) in
     let new_is : take n (write_call file amounts presence labels out).out ≡ new = ap (take n) out_is ∙ take_at new (drop (length new) out) n (sym w.1) in
     rw new_is (restored file b ways.1 amounts fit presence words (eqb-true _ 8 presence_is.0) labels label_words (eqb-true _ 4096 labels_are.0))

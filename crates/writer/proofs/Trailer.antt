@@ -15,7 +15,7 @@ use Rattle.book.specs.Kinds.{between}
 use Rattle.book.specs.Refusals.{mark, length_fits, marked, mark_fits, sections_fit, verdict}
 use Rattle.book.specs.Encode.{Extent, distance_to_end, pairs}
 use Rattle.book.specs.declared.Section.{Section}
-use Rattle.book.specs.declared.Verdict.TheVariants.{Accepted}
+use Rattle.std.specs.Prelude.{Ok}
 use Rattle.book.proofs.Chains.{both}
 use Rattle.book.proofs.Accepted.{Sited, accepted, placed, seventh_back}
 use Rattle.encoder.specs.Steps.{sized, tail_with}
@@ -207,7 +207,7 @@ found_few t = record {
 }
 
 -- of version 2
-module _ (s : List ℕ) (v : verdict s ≡ Accepted) (two_is : remembers s ≡ true) where
+module _ (s : List ℕ) (v : verdict s ≡ Ok tt) (two_is : remembers s ≡ true) where
   pub found_trailed : Trailed s (found s)
   found_trailed =
       let t = placed s v in

@@ -1,13 +1,15 @@
 -- Writing: from all that the call is given to all that it leaves.
-use Rattle.std.specs.Prelude.{◌≡◌, List, ◌++◌, Bool, ◌&&◌, ℕ, eqb, leb, ℤ, length, drop}
+use Rattle.std.specs.Prelude.{◌≡◌, List, ◌++◌, Bool, ◌&&◌, ℕ, eqb, leb, ℤ, length, drop, Result, Ok, Err}
 use Rattle.book.specs.Layout.{decode}
-use Rattle.book.specs.Refusals.{VerdictValues, verdict_values, and_then, need, verdict}
+use Rattle.book.specs.Refusals.{number_of, Verdict, VerdictValues, verdict_values, and_then, need, verdict}
 use Rattle.book.specs.Encode.{encode, with_cells}
 use Rattle.loader.specs.Load.{where_accepted}
-use Rattle.book.specs.declared.Verdict.{Verdict}
-use Rattle.writer.specs.declared.Written.{Written}
-use Rattle.book.specs.declared.Verdict.TheVariants as verdicts
-use Rattle.writer.specs.declared.Written.TheVariants as writtens
+use Rattle.book.specs.declared.Refusal.{Refusal}
+use Rattle.book.specs.declared.Reason.TheVariants as reasons
+
+-- what writing a book answers: the length written, or a refusal
+abbrev pub Written : Type 0
+Written = Result ℕ Refusal
 
 -- an answer in the paper's numbers, and the bytes written
 pub record WrittenValues : Type 0 where
@@ -17,8 +19,8 @@ pub record WrittenValues : Type 0 where
 
 -- a refusal writes none
 unfoldable pub written_values : Written → WrittenValues
-written_values (writtens.Refused number index) = record { number = number; index = index; bytes = 0 }
-written_values (writtens.Wrote bytes) = record { number = 0; index = 0; bytes = bytes }
+written_values (Err refusal) = record { number = number_of refusal.reason; index = refusal.index; bytes = 0 }
+written_values (Ok bytes) = record { number = 0; index = 0; bytes = bytes }
 
 -- 1: 512 amounts, 8 presence words, 4,096 label words, at least 60,000 bytes of output
 abbrev pub write_fits : List ℤ → List ℕ → List ℕ → List ℕ → Bool
@@ -27,7 +29,7 @@ write_fits amounts presence labels out =
 
 -- refusal 1, then 2 to 10 and 32
 unfoldable pub write_verdict : List ℕ → List ℤ → List ℕ → List ℕ → List ℕ → Verdict
-write_verdict file amounts presence labels out = and_then (need 1 (write_fits amounts presence labels out)) (verdict file)
+write_verdict file amounts presence labels out = and_then (need reasons.Lent (write_fits amounts presence labels out)) (verdict file)
 
 -- the book with its cells and labels replaced, as version 2
 unfoldable pub rewritten : (file : List ℕ) (amounts : List ℤ) (presence labels : List ℕ) → List ℕ
@@ -35,8 +37,8 @@ rewritten file amounts presence labels = encode (with_cells amounts presence lab
 
 -- the answer: the length written, or the refusal
 abbrev pub write_answer : Verdict → List ℕ → Written
-write_answer verdicts.Accepted new = writtens.Wrote (length new)
-write_answer (verdicts.Refused number index) new = writtens.Refused number index
+write_answer (Ok _) new = Ok (length new)
+write_answer (Err refusal) new = Err refusal
 
 -- the answer, and the output afterwards; bytes past the book stay
 pub record WriteCall : Type 0 where

@@ -5,18 +5,18 @@ use Rattle.capi.proofs.kagyurma_write.Goals as goal
 
 pub told-requires : goal.told-requires
 told-requires c =
-    let low = write_index c.args.file.now c.args.amounts.now c.args.presence.now c.args.labels.now c.args.out.now _ _ c.write.ensures _ _ c.in-Refused.is in
+    let short = write_bytes c.args.file.now c.args.amounts.now c.args.presence.now c.args.labels.now c.args.out.now _ _ c.write.ensures _ c.in-Ok.is in
     (omega arith, omega arith)
 
-pub told-requires-in-Wrote : goal.told-requires-in-Wrote
-told-requires-in-Wrote c =
-    let short = write_bytes c.args.file.now c.args.amounts.now c.args.presence.now c.args.labels.now c.args.out.now _ _ c.write.ensures _ c.in-Wrote.is in
+pub told-requires-in-Err : goal.told-requires-in-Err
+told-requires-in-Err c =
+    let low = write_index c.args.file.now c.args.amounts.now c.args.presence.now c.args.labels.now c.args.out.now _ _ c.write.ensures _ c.in-Err.is in
     (omega arith, omega arith)
 
-pub returns-in-Refused : goal.returns-in-Refused
-returns-in-Refused c =
-    write_refused c.args.file.now c.args.amounts.now c.args.presence.now c.args.labels.now c.args.out.now _ _ c.write.ensures _ _ c.in-Refused.is _ c.told.ensures
+pub returns-in-Ok : goal.returns-in-Ok
+returns-in-Ok c =
+    write_wrote c.args.file.now c.args.amounts.now c.args.presence.now c.args.labels.now c.args.out.now _ _ c.write.ensures _ c.in-Ok.is _ c.told.ensures
 
-pub returns-in-Wrote : goal.returns-in-Wrote
-returns-in-Wrote c =
-    write_wrote c.args.file.now c.args.amounts.now c.args.presence.now c.args.labels.now c.args.out.now _ _ c.write.ensures _ c.in-Wrote.is _ c.told-in-Wrote.ensures
+pub returns-in-Err : goal.returns-in-Err
+returns-in-Err c =
+    write_refused c.args.file.now c.args.amounts.now c.args.presence.now c.args.labels.now c.args.out.now _ _ c.write.ensures _ c.in-Err.is _ (rw c.number.ensures at c.told-in-Err.ensures)

@@ -1,393 +1,356 @@
 -- The cycle of commands meets its contracts.
-use mathlib.Core.Path.{◌≡◌, refl, sym, ◌∙◌}
+use mathlib.Core.Path.{◌≡◌, refl, sym, ap, ◌∙◌}
 use mathlib.Core.List.{List, []}
 use Prim.Native.Nat.{ℕ, ◌+◌, ◌-◌, ◌*◌}
 use native.Mathlib.Omega.{arith}
 use lib.Dec.{eqb}
-use lib.IntN.{ℤ}
 use lib.ListN.{length}
 use borrow.Author.Tests.{eq-eqb, ne_eqb}
+use Rattle.std.specs.Prelude.{Option, Some, Ok}
+use Rattle.std.proofs.lemmas.Result.{err_from_is_err_and}
 use Rattle.book.specs.Bytes.{byte}
 use Rattle.monitor.specs.Labelled.{Label}
 use Rattle.machine.specs.Script.{script_of}
-use Rattle.machine.specs.Store.{vars_of, store, Lent}
-use Rattle.machine.specs.Promises.{Enters, who_of}
-use Rattle.machine.specs.Writes.{key_in, cell_in}
+use Rattle.machine.specs.Store.{vars_of, store_of}
+use Rattle.machine.specs.Promises.{Enters}
+use Rattle.machine.specs.Writes.{event_number, key_in, cell_in}
+use Rattle.machine.specs.declared.lent.Event.{Event}
+use Rattle.machine.specs.declared.lent.Entry.{Entry}
+use Rattle.machine.proofs.Nodes.{read, kind_inside}
 use Rattle.machine.proofs.Runs.{then_stops, then_goes}
 use Rattle.machine.proofs.Stores.{idle_same}
 use Rattle.triggers.specs.Search.{first_fitting}
 use Rattle.triggers.specs.declared.Fitting.{Fitting}
-use Rattle.triggers.specs.declared.Fitting.TheVariants as fitted
-use Rattle.commands.proofs.Chains.{weight_list, weight_kept, Head, chain_stops, chain_ends, chain_turns}
-use Rattle.commands.proofs.Entries.{read, inside, kind_inside, outside_kinds, cost_paid, cost_short, lent_paid, list_turns, single_turns, while_turns}
+use Rattle.commands.proofs.Chains.{weight_list, weight_kept, Head, chain_stops, chain_turns}
+use Rattle.commands.proofs.Entries.{outside_kinds, cost_paid, cost_short, list_turns, single_turns, while_turns}
 use Rattle.commands.proofs.Firing.{variables_are, Found, found, none_left, found_stops, found_goes, found_runs}
-use Rattle.commands.proofs.Steps.{does_keeps, keeps_both, lent_on, idle_on, answers, priced, paid_less, paid_keeps, enters, enters_not}
-use Rattle.commands.proofs.Tests.{branch_ends, branch_goes, while_ends}
+use Rattle.commands.proofs.Steps.{does_keeps, keeps_both, idle_on, ready_on, answers, priced, paid_less, paid_keeps, enters, enters_not}
+use Rattle.commands.proofs.Tests.{branch_stops, branch_never, branch_goes, while_stops, while_ends}
 use Rattle.commands.proofs.Undoing.{under_way, begun_public, own_posts, inner_posts}
 use Rattle.commands.proofs.+branch_enter_exec_fire_post_repeat_write.Goals as goal
-use Rattle.commands.proofs.+branch_enter_exec_fire_post_repeat_write.Goals.{exec-then-more+in-Done, exec-else-more}
+use Rattle.commands.proofs.+branch_enter_exec_fire_post_repeat_write.Goals.{exec-Joined-more, exec-then-more+in_ok-pay, exec-else-more}
 
 -- ---- the goals of `branch`
 
--- the test leads to no command
+-- the test stops
+pub branch-returns-in_err-way : goal.branch-returns-in_err-way
+branch-returns-in_err-way t c =
+    let a = c.args in
+    rw (err_from_is_err_and c.from_residual.result c.from_residual.ensures.1).1
+    (branch_stops a.script.bytes.now a.env.now.ctx a.env.now.who a.n {x = store_of a.store.now} c.decide.ensures a.store.now.room c.requires.n_value c.in_err-way.was)
+
+-- it leads to a command
 pub branch-returns-in_default : goal.branch-returns-in_default
 branch-returns-in_default t c =
     let a = c.args in
-    let lent = c.requires.lent in
-    answers c.ended.ensures (branch_ends a.code.now a.ctx.now (who_of a.who.now) a.n {x = store a.cells.now a.sets.now a.run.now a.trace.now}
-    c.decide-next.ensures lent.0.room c.requires.n_value c.in_default.not-Enter)
+    absurd (branch_never a.script.bytes.now a.env.now.ctx a.env.now.who a.n c.decide.ensures c.requires.n_value (c.in_ok-way.was ∙ ap Ok c.in_default.is))
 
 pub branch-exec-requires : goal.branch-exec-requires
 branch-exec-requires t c =
     let a = c.args in
-    let lent = c.requires.lent in
-    let goes = branch_goes a.code.now a.ctx.now (who_of a.who.now) a.n {x = store a.cells.now a.sets.now a.run.now a.trace.now}
-    c.decide-next.ensures lent.0.room lent.0.runnable.sound lent.1.inside c.in-Enter.is c.requires.n_value in
-    (omega (arith, c.decreases, weight_kept a.code.now c.in-Enter.way goes.1.keeps), (lent_on lent.0 goes.1.keeps, goes.0, lent.2, idle_on lent.3 goes.1.keeps))
+    let goes = branch_goes a.script.bytes.now a.env.now.ctx a.env.now.who a.n {x = store_of a.store.now} c.decide.ensures a.store.now.room
+    a.script.runnable.sound c.requires.ready.node.inside (c.in_ok-way.was ∙ ap Ok c.in-Some.is) c.requires.n_value in
+    (omega (arith, c.decreases, weight_kept a.script.bytes.now c.in-Some.way goes.1.keeps), ready_on c.requires.ready goes.1.keeps goes.0)
 
--- the command that it leads to
 pub branch-returns : goal.branch-returns
 branch-returns t c =
     let a = c.args in
-    let lent = c.requires.lent in
-    (branch_goes a.code.now a.ctx.now (who_of a.who.now) a.n {x = store a.cells.now a.sets.now a.run.now a.trace.now}
-    c.decide-next.ensures lent.0.room lent.0.runnable.sound lent.1.inside c.in-Enter.is c.requires.n_value).1.ends c.exec.ensures
+    (branch_goes a.script.bytes.now a.env.now.ctx a.env.now.who a.n {x = store_of a.store.now} c.decide.ensures a.store.now.room
+    a.script.runnable.sound c.requires.ready.node.inside (c.in_ok-way.was ∙ ap Ok c.in-Some.is) c.requires.n_value).1.ends c.exec.ensures
 
 -- ---- the goals of `enter`
 
 pub enter-exec-requires : goal.enter-exec-requires
 enter-exec-requires t c =
     let a = c.args in
-    let kind = sym (read c.requires.0.runnable c.requires.1).kind ∙ c.if-kind-eq18.true in
-    (omega (arith, c.decreases, weight_list a.code.now a.n a.run.now kind), c.requires)
+    let kind = sym (read a.script.runnable c.requires.node).kind ∙ c.if-kind-eq18.true in
+    (omega (arith, c.decreases, weight_list a.script.bytes.now a.n a.store.now.run kind), c.requires)
 
-pub enter-pay-paid-requires : goal.enter-pay-paid-requires
-enter-pay-paid-requires t c =
-    let runs = c.requires.0.runnable in
-    (runs, kind_inside runs c.requires.1, inside runs c.requires.1)
+pub enter-pay-requires : goal.enter-pay-requires
+enter-pay-requires t c = kind_inside c.args.script.runnable c.requires.node
 
 -- the cost would pass the budget
-pub enter-returns-in_default : goal.enter-returns-in_default
-enter-returns-in_default t c =
+pub enter-returns-in_err-pay : goal.enter-returns-in_err-pay
+enter-returns-in_err-pay t c =
     let a = c.args in
-    let lent = c.requires.0 in
-    enters_not a.code.now a.n a.ctx.now (who_of a.who.now) (cost_short lent.runnable c.requires.1 c.pay-paid.ensures c.in_default.is) lent.room
+    rw (err_from_is_err_and c.from_residual.result c.from_residual.ensures.1).1
+    (enters_not a.script.bytes.now a.n a.env.now.ctx a.env.now.who (cost_short a.script.runnable c.requires.node c.pay.ensures c.in_err-pay.was) a.store.now.room)
 
--- it is paid, and the memory is lent on
-pub enter-branch-code-requires : goal.enter-branch-code-requires
-enter-branch-code-requires t c =
+-- it is paid
+pub enter-branch-script-requires : goal.enter-branch-script-requires
+enter-branch-script-requires t c =
     let a = c.args in
-    let lent = c.requires.0 in
-    let p = cost_paid lent.runnable c.requires.1 c.pay-paid.ensures c.in-Done.is in
-    let kind = sym (read lent.runnable c.requires.1).kind ∙ c.in-19.is in
-    (omega (arith, c.decreases, paid_less a.code.now a.n p), ((lent_paid a.n lent p, c.requires.1, c.requires.2, c.requires.3), kind))
+    let p = cost_paid a.script.runnable c.requires.node c.pay.ensures c.in_ok-pay.was in
+    (omega (arith, c.decreases, paid_less a.script.bytes.now a.n p), (c.requires, sym (read a.script.runnable c.requires.node).kind ∙ c.in-19.is))
 
 pub enter-repeat-requires : goal.enter-repeat-requires
 enter-repeat-requires t c =
     let a = c.args in
-    let lent = c.requires.0 in
-    let p = cost_paid lent.runnable c.requires.1 c.pay-paid.ensures c.in-Done.is in
-    let kind = sym (read lent.runnable c.requires.1).kind ∙ c.in-20.is in
-    (omega (arith, c.decreases, paid_less a.code.now a.n p), ((lent_paid a.n lent p, c.requires.1, c.requires.2, c.requires.3), kind))
+    let p = cost_paid a.script.runnable c.requires.node c.pay.ensures c.in_ok-pay.was in
+    (omega (arith, c.decreases, paid_less a.script.bytes.now a.n p), (c.requires, sym (read a.script.runnable c.requires.node).kind ∙ c.in-20.is))
 
 pub enter-post-requires : goal.enter-post-requires
+unfolding event_number
 enter-post-requires t c =
     let a = c.args in
-    let lent = c.requires.0 in
-    let p = cost_paid lent.runnable c.requires.1 c.pay-paid.ensures c.in-Done.is in
-    let kind = sym (read lent.runnable c.requires.1).kind ∙ c.in-21.is in
-    (omega (arith, c.decreases, paid_less a.code.now a.n p), ((lent_paid a.n lent p, c.requires.1, c.requires.2, c.requires.3), (kind, omega arith, omega arith)))
+    let p = cost_paid a.script.runnable c.requires.node c.pay.ensures c.in_ok-pay.was in
+    (omega (arith, c.decreases, paid_less a.script.bytes.now a.n p), (c.requires, sym (read a.script.runnable c.requires.node).kind ∙ c.in-21.is))
 
 pub enter-post-requires-in-22 : goal.enter-post-requires-in-22
+unfolding event_number
 enter-post-requires-in-22 t c =
     let a = c.args in
-    let lent = c.requires.0 in
-    let p = cost_paid lent.runnable c.requires.1 c.pay-paid.ensures c.in-Done.is in
-    let kind = sym (read lent.runnable c.requires.1).kind ∙ c.in-22.is in
-    (omega (arith, c.decreases, paid_less a.code.now a.n p), ((lent_paid a.n lent p, c.requires.1, c.requires.2, c.requires.3), (kind, omega arith, omega arith)))
-
-pub enter-act-requires-clause-lent : goal.enter-act-requires-clause-lent
-enter-act-requires-clause-lent t c =
-    let lent = c.requires.0 in
-    lent_paid c.args.n lent (cost_paid lent.runnable c.requires.1 c.pay-paid.ensures c.in-Done.is)
+    let p = cost_paid a.script.runnable c.requires.node c.pay.ensures c.in_ok-pay.was in
+    (omega (arith, c.decreases, paid_less a.script.bytes.now a.n p), (c.requires, sym (read a.script.runnable c.requires.node).kind ∙ c.in-22.is))
 
 pub enter-act-requires-clause-node : goal.enter-act-requires-clause-node
 enter-act-requires-clause-node t c =
-    (c.requires.1, outside_kinds (read c.requires.0.runnable c.requires.1).kind c.if-kind-eq18.false (λ e. omega arith) (λ e. omega arith) (λ e. omega arith) (λ e. omega arith))
+    (c.requires.node, outside_kinds (read c.args.script.runnable c.requires.node).kind c.if-kind-eq18.false (λ e. omega arith) (λ e. omega arith) (λ e. omega arith) (λ e. omega arith))
 
-pub enter-act-requires-in_default-kind-clause-node : goal.enter-act-requires-in_default-kind-clause-node
-enter-act-requires-in_default-kind-clause-node t c =
-    (c.requires.1, outside_kinds (read c.requires.0.runnable c.requires.1).kind c.if-kind-eq18.false (λ e. omega arith) (λ e. omega arith) (λ e. omega arith) (λ e. omega arith))
+pub enter-act-requires-in_default-clause-node : goal.enter-act-requires-in_default-clause-node
+enter-act-requires-in_default-clause-node t c =
+    (c.requires.node, outside_kinds (read c.args.script.runnable c.requires.node).kind c.if-kind-eq18.false (λ e. omega arith) (λ e. omega arith) (λ e. omega arith) (λ e. omega arith))
 
 -- and the command does its work
 pub enter-returns-in-19 : goal.enter-returns-in-19
 enter-returns-in-19 t c =
     let a = c.args in
-    enters a.code.now a.n a.ctx.now (who_of a.who.now) (cost_paid c.requires.0.runnable c.requires.1 c.pay-paid.ensures c.in-Done.is) c.branch-code.ensures
+    enters a.script.bytes.now a.n a.env.now.ctx a.env.now.who (cost_paid a.script.runnable c.requires.node c.pay.ensures c.in_ok-pay.was) c.branch-script.ensures
 
 pub enter-returns-in-20 : goal.enter-returns-in-20
 enter-returns-in-20 t c =
     let a = c.args in
-    enters a.code.now a.n a.ctx.now (who_of a.who.now) (cost_paid c.requires.0.runnable c.requires.1 c.pay-paid.ensures c.in-Done.is) c.repeat.ensures
+    enters a.script.bytes.now a.n a.env.now.ctx a.env.now.who (cost_paid a.script.runnable c.requires.node c.pay.ensures c.in_ok-pay.was) c.repeat.ensures
 
 pub enter-returns-in-21 : goal.enter-returns-in-21
 enter-returns-in-21 t c =
     let a = c.args in
-    enters a.code.now a.n a.ctx.now (who_of a.who.now) (cost_paid c.requires.0.runnable c.requires.1 c.pay-paid.ensures c.in-Done.is) c.post.ensures
+    enters a.script.bytes.now a.n a.env.now.ctx a.env.now.who (cost_paid a.script.runnable c.requires.node c.pay.ensures c.in_ok-pay.was) c.post.ensures
 
 pub enter-returns-in-22 : goal.enter-returns-in-22
 enter-returns-in-22 t c =
     let a = c.args in
-    enters a.code.now a.n a.ctx.now (who_of a.who.now) (cost_paid c.requires.0.runnable c.requires.1 c.pay-paid.ensures c.in-Done.is) c.post-in-22.ensures
+    enters a.script.bytes.now a.n a.env.now.ctx a.env.now.who (cost_paid a.script.runnable c.requires.node c.pay.ensures c.in_ok-pay.was) c.post-in-22.ensures
 
 pub enter-returns-in-17 : goal.enter-returns-in-17
 enter-returns-in-17 t c =
     let a = c.args in
-    enters a.code.now a.n a.ctx.now (who_of a.who.now) (cost_paid c.requires.0.runnable c.requires.1 c.pay-paid.ensures c.in-Done.is) c.act.ensures
+    enters a.script.bytes.now a.n a.env.now.ctx a.env.now.who (cost_paid a.script.runnable c.requires.node c.pay.ensures c.in_ok-pay.was) c.act.ensures
 
-pub enter-returns-in_default-kind : goal.enter-returns-in_default-kind
-enter-returns-in_default-kind t c =
+pub enter-returns-in_default : goal.enter-returns-in_default
+enter-returns-in_default t c =
     let a = c.args in
-    enters a.code.now a.n a.ctx.now (who_of a.who.now) (cost_paid c.requires.0.runnable c.requires.1 c.pay-paid.ensures c.in-Done.is) c.act-in_default-kind.ensures
+    enters a.script.bytes.now a.n a.env.now.ctx a.env.now.who (cost_paid a.script.runnable c.requires.node c.pay.ensures c.in_ok-pay.was) c.act-in_default.ensures
 
 -- ---- the goals of `exec`
 
 -- the cost of a sequence would pass the budget
-pub exec-returns-in_default : goal.exec-returns-in_default
-exec-returns-in_default t c =
+pub exec-returns-in_err-pay : goal.exec-returns-in_err-pay
+exec-returns-in_err-pay t c =
     let a = c.args in
-    let chain = c.loop-run.invariant in
-    let kind = sym c.if-more.true ∙ (read c.requires.0.runnable chain.node).kind in
-    chain.rest.ends (enters_not a.code.now c.loop-run.turn a.ctx.now (who_of a.who.now) ((priced a.code.now c.loop-run.turn kind c.pay-paid.ensures).short c.in_default.is) chain.rest.keeps.fits)
+    let chain = c.loop-script.invariant in
+    let kind = sym c.if-more.true ∙ (read a.script.runnable chain.node).kind in
+    rw (err_from_is_err_and c.from_residual.result c.from_residual.ensures.1).1
+    (chain.rest.ends (enters_not a.script.bytes.now c.loop-script.turn a.env.now.ctx a.env.now.who ((priced a.script.bytes.now c.loop-script.turn kind c.pay.ensures).short c.in_err-pay.was) chain.rest.keeps.fits))
 
--- the command that the turn enters
-pub exec-enter-ran-requires : goal.exec-enter-ran-requires
-exec-enter-ran-requires t c =
-    let a = c.args in
-    let l = c.loop-run in
-    let chain = l.invariant in
-    let h : Head a.code.now a.ctx.now (who_of a.who.now) l.turn (vars_of l.vars l.tags) (store l.cells l.sets l.run l.trace)
-    (eqb (byte a.code.now (16 * l.turn)) 18) c.if-more.next (store l.cells l.sets c.if-more.run l.trace) =
+-- what a turn enters: the first half of a sequence, or the command itself
+turn_head : {t : ℕ} (c : exec-Joined-more t) → Head c.args.script.bytes.now c.args.env.now.ctx c.args.env.now.who c.loop-script.turn (vars_of c.loop-script.vars) (store_of c.loop-script.store)
+    (eqb (byte c.args.script.bytes.now (16 * c.loop-script.turn)) 18) c.if-more.next (store_of c.if-more.store)
+turn_head c =
+    let runs = c.args.script.runnable in
+    let chain = c.loop-script.invariant in
     elim c.if-more.branch [
-      | exec-then-more+in-Done w ↦ list_turns c.requires.0.runnable chain.node chain.rest.keeps.fits w.if-more.true w.pay-paid.ensures w.in-Done.is w.run-is w.u16_at-next.ensures.0 w.next-is
-      | exec-else-more w ↦ single_turns c.requires.0.runnable chain.node chain.rest.keeps.fits w.if-more.false w.run-is w.next-is
-    ] in
+      | exec-then-more+in_ok-pay w ↦ list_turns runs chain.node chain.rest.keeps.fits w.if-more.true w.pay.ensures w.in_ok-pay.was (ap store_of w.store-is) w.u16_at-next.ensures.0 w.next-is
+      | exec-else-more w ↦ single_turns runs chain.node chain.rest.keeps.fits w.if-more.false (ap store_of w.store-is) w.next-is
+    ]
+
+pub exec-enter-requires : goal.exec-enter-requires
+exec-enter-requires t c =
+    let chain = c.loop-script.invariant in
+    let h = turn_head (goal.at.exec-enter-requires t c).Joined-more in
     let kept = keeps_both chain.rest.keeps h.keeps in
-    (omega (arith, c.decreases, chain.within, h.less), (lent_on c.requires.0 kept, h.node_is, c.requires.2, idle_on c.requires.3 kept))
+    (omega (arith, c.decreases, chain.within, h.less), ready_on c.requires kept h.node_is)
 
 -- it stops
-pub exec-returns-in_default-ran : goal.exec-returns-in_default-ran
-exec-returns-in_default-ran t c =
-    let a = c.args in
-    let l = c.loop-run in
-    let chain = l.invariant in
-    let h : Head a.code.now a.ctx.now (who_of a.who.now) l.turn (vars_of l.vars l.tags) (store l.cells l.sets l.run l.trace)
-    (eqb (byte a.code.now (16 * l.turn)) 18) c.if-more.next (store l.cells l.sets c.if-more.run l.trace) =
-    elim c.if-more.branch [
-      | exec-then-more+in-Done w ↦ list_turns c.requires.0.runnable chain.node chain.rest.keeps.fits w.if-more.true w.pay-paid.ensures w.in-Done.is w.run-is w.u16_at-next.ensures.0 w.next-is
-      | exec-else-more w ↦ single_turns c.requires.0.runnable chain.node chain.rest.keeps.fits w.if-more.false w.run-is w.next-is
-    ] in
-    chain_stops chain h c.enter-ran.ensures c.in_default-ran.is
-
--- it is done, and nothing follows
-pub exec-returns-then-not-more : goal.exec-returns-then-not-more
-exec-returns-then-not-more t c =
-    let a = c.args in
-    let l = c.loop-run in
-    let chain = l.invariant in
-    let h : Head a.code.now a.ctx.now (who_of a.who.now) l.turn (vars_of l.vars l.tags) (store l.cells l.sets l.run l.trace)
-    (eqb (byte a.code.now (16 * l.turn)) 18) c.if-more.next (store l.cells l.sets c.if-more.run l.trace) =
-    elim c.if-more.branch [
-      | exec-then-more+in-Done w ↦ list_turns c.requires.0.runnable chain.node chain.rest.keeps.fits w.if-more.true w.pay-paid.ensures w.in-Done.is w.run-is w.u16_at-next.ensures.0 w.next-is
-      | exec-else-more w ↦ single_turns c.requires.0.runnable chain.node chain.rest.keeps.fits w.if-more.false w.run-is w.next-is
-    ] in
-    chain_ends chain h (ne_eqb _ 18 c.if-not-more.true) c.enter-ran.ensures c.in-Done-ran.is
+pub exec-returns-in_err-enter : goal.exec-returns-in_err-enter
+exec-returns-in_err-enter t c =
+    rw (err_from_is_err_and c.from_residual-in_err-enter.result c.from_residual-in_err-enter.ensures.1).1
+    (chain_stops c.loop-script.invariant (turn_head (goal.at.exec-returns-in_err-enter t c).Joined-more) c.enter.ensures c.in_err-enter.was)
 
 -- the second half of a sequence is the next turn
-pub exec-loop-run-smaller : goal.exec-loop-run-smaller
-exec-loop-run-smaller t c =
-    let a = c.args in
-    let l = c.loop-run in
-    let chain = l.invariant in
-    let h : Head a.code.now a.ctx.now (who_of a.who.now) l.turn (vars_of l.vars l.tags) (store l.cells l.sets l.run l.trace)
-    (eqb (byte a.code.now (16 * l.turn)) 18) c.if-more.next (store l.cells l.sets c.if-more.run l.trace) =
-    elim c.if-more.branch [
-      | exec-then-more+in-Done w ↦ list_turns c.requires.0.runnable chain.node chain.rest.keeps.fits w.if-more.true w.pay-paid.ensures w.in-Done.is w.run-is w.u16_at-next.ensures.0 w.next-is
-      | exec-else-more w ↦ single_turns c.requires.0.runnable chain.node chain.rest.keeps.fits w.if-more.false w.run-is w.next-is
-    ] in
-    omega (arith, h.falls (eq-eqb _ 18 c.if-not-more.false), c.enter-ran.ensures.leaves.within)
+pub exec-loop-script-smaller : goal.exec-loop-script-smaller
+exec-loop-script-smaller t c =
+    omega (arith, (turn_head (goal.at.exec-loop-script-smaller t c).Joined-more).falls (eq-eqb _ 18 c.if-not-more.false), c.enter.ensures.leaves.within)
 
-pub exec-loop-run-preserved : goal.exec-loop-run-preserved
-exec-loop-run-preserved t c =
-    let a = c.args in
-    let l = c.loop-run in
-    let chain = l.invariant in
-    let h : Head a.code.now a.ctx.now (who_of a.who.now) l.turn (vars_of l.vars l.tags) (store l.cells l.sets l.run l.trace)
-    (eqb (byte a.code.now (16 * l.turn)) 18) c.if-more.next (store l.cells l.sets c.if-more.run l.trace) =
-    elim c.if-more.branch [
-      | exec-then-more+in-Done w ↦ list_turns c.requires.0.runnable chain.node chain.rest.keeps.fits w.if-more.true w.pay-paid.ensures w.in-Done.is w.run-is w.u16_at-next.ensures.0 w.next-is
-      | exec-else-more w ↦ single_turns c.requires.0.runnable chain.node chain.rest.keeps.fits w.if-more.false w.run-is w.next-is
-    ] in
-    chain_turns chain h (eq-eqb _ 18 c.if-not-more.false) c.enter-ran.ensures c.in-Done-ran.is (c.u16_at-turn.ensures.0 ∙ (read c.requires.0.runnable chain.node).b)
+pub exec-loop-script-preserved : goal.exec-loop-script-preserved
+exec-loop-script-preserved t c =
+    chain_turns c.loop-script.invariant (turn_head (goal.at.exec-loop-script-preserved t c).Joined-more) (eq-eqb _ 18 c.if-not-more.false) c.enter.ensures c.in_ok-enter.was
+    (c.u16_at-turn.ensures.0 ∙ (read c.args.script.runnable c.loop-script.invariant.node).b)
 
 -- ---- the goals of `fire`
 
 -- the trigger that a turn runs, for any label of the amount
-trigger : {code : List ℕ} (ctx : Label) {event place : ℕ} (key : List ℤ) (own : Label) {from : ℕ} {r : Fitting} → r ≡ first_fitting code event place (length (script_of code).triggers - from) from
-    → {number user body : ℕ} → r ≡ fitted.Trigger number user body → Found code ctx event place (key_in key) (cell_in event key own) from number user body
-trigger {code} ctx {event} {place} key own {from} e is =
-    found code ctx event place (key_in key) (cell_in event key own) (length (script_of code).triggers - from) from refl (sym e ∙ is)
+trigger : {code : List ℕ} (ctx : Label) (event : Event) {place : ℕ} (entry : Entry) (own : Label) {from : ℕ} {r : Option Fitting}
+    → r ≡ first_fitting code (event_number event) place (length (script_of code).triggers - from) from → {f : Fitting} → r ≡ Some f
+    → Found code ctx (event_number event) place (key_in entry) (cell_in event entry own) from f.number f.user f.body
+trigger {code} ctx event {place} entry own {from} e is =
+    found code ctx (event_number event) place (key_in entry) (cell_in event entry own) (length (script_of code).triggers - from) from refl (sym e ∙ is)
 
 -- none is left
 pub fire-returns-in_default : goal.fire-returns-in_default
 fire-returns-in_default t c = λ own vars l.
     let a = c.args in
-    let remains = c.loop-number.invariant in
-    remains.ends own vars l (none_left a.code.now a.ctx.now a.event a.place _ _ c.loop-number.from remains.keeps.fits (sym c.next_fitting-next.ensures ∙ c.in_default.is))
+    let remains = c.loop-next.invariant in
+    remains.ends own vars l (none_left a.script.bytes.now a.env.now.ctx (event_number a.event) a.written.place _ _ c.loop-next.from remains.keeps.fits (sym c.next_fitting.ensures ∙ c.in_default.is))
 
 pub fire-overflow_add-from : goal.fire-overflow_add-from
 fire-overflow_add-from t c =
     let a = c.args in
-    omega (arith, (trigger a.ctx.now a.key.now [] c.next_fitting-next.ensures c.in-Trigger.is).below, c.requires.0.runnable.sound.few_triggers)
+    omega (arith, (trigger a.env.now.ctx a.event a.written.entry [] c.next_fitting.ensures c.in-Some.is).below, a.script.runnable.sound.few_triggers)
 
-pub fire-exec-ran-requires : goal.fire-exec-ran-requires
-fire-exec-ran-requires t c =
+pub fire-exec-requires : goal.fire-exec-requires
+fire-exec-requires t c =
     let a = c.args in
-    let lent = c.requires.0 in
-    let remains = c.loop-number.invariant in
-    let runs = found_runs a.code.now a.ctx.now a.event a.place _ _ lent.runnable (trigger a.ctx.now a.key.now [] c.next_fitting-next.ensures c.in-Trigger.is) in
-    let own = sym (ne_eqb (c.in-Trigger.number + 1) 0 (λ e. omega (arith, e))) in
-    (omega (arith, c.decreases, weight_kept a.code.now c.in-Trigger.body remains.keeps), (lent_on lent remains.keeps, runs.0, runs.1, idle_on c.requires.2 remains.keeps ∙ own))
+    let keeps = c.loop-next.invariant.keeps in
+    let runs = found_runs a.script.bytes.now a.env.now.ctx (event_number a.event) a.written.place _ _ a.script.runnable (trigger a.env.now.ctx a.event a.written.entry [] c.next_fitting.ensures c.in-Some.is) in (
+      omega (arith, c.decreases, weight_kept a.script.bytes.now c.in-Some.next.body keeps),
+      record {
+        public_is = keeps.public_same ∙ c.requires.0;
+        node = runs.0;
+        user_below = runs.1;
+        own_is = idle_on c.requires.2 keeps ∙ sym (ne_eqb (c.in-Some.next.number + 1) 0 (λ e. omega (arith, e)));
+      },
+    )
 
-pub fire-loop-number-smaller : goal.fire-loop-number-smaller
-fire-loop-number-smaller t c =
+pub fire-loop-next-smaller : goal.fire-loop-next-smaller
+fire-loop-next-smaller t c =
     let a = c.args in
-    let this = trigger a.ctx.now a.key.now [] c.next_fitting-next.ensures c.in-Trigger.is in
-    omega (arith, this.from, this.below, c.requires.0.runnable.sound.few_triggers)
+    let this = trigger a.env.now.ctx a.event a.written.entry [] c.next_fitting.ensures c.in-Some.is in
+    omega (arith, this.from, this.below, a.script.runnable.sound.few_triggers)
 
 -- it is done: the triggers after it are next
-pub fire-loop-number-preserved : goal.fire-loop-number-preserved
-fire-loop-number-preserved t c =
+pub fire-loop-next-preserved : goal.fire-loop-next-preserved
+fire-loop-next-preserved t c =
     let a = c.args in
-    let remains = c.loop-number.invariant in
+    let remains = c.loop-next.invariant in
     record {
-      keeps = keeps_both remains.keeps (does_keeps c.exec-ran.ensures);
-      ends = λ own vars l d. remains.ends own vars l (found_goes a.code.now a.ctx.now a.event a.place _ _ (trigger a.ctx.now a.key.now own c.next_fitting-next.ensures c.in-Trigger.is) (omega arith)
-          (variables_are a.ctx.now own a.event a.key.now l c.set_variables.ensures) c.exec-ran.ensures c.in-Done.is d);
+      keeps = keeps_both remains.keeps (does_keeps c.exec.ensures);
+      ends = λ own vars l d. remains.ends own vars l (found_goes a.script.bytes.now a.env.now.ctx (event_number a.event) a.written.place _ _ (trigger a.env.now.ctx a.event a.written.entry own c.next_fitting.ensures c.in-Some.is) (omega arith)
+          (variables_are a.env.now.ctx own a.event a.written.entry l c.set_variables.ensures) c.exec.ensures c.in_ok-exec.was d);
     }
 
 -- it stops
-pub fire-returns-in_default-ran : goal.fire-returns-in_default-ran
-fire-returns-in_default-ran t c = λ own vars l.
+pub fire-returns-in_err-exec : goal.fire-returns-in_err-exec
+fire-returns-in_err-exec t c = λ own vars l.
     let a = c.args in
-    let told = c.in_default-ran.is in
-    answers (sym told) (c.loop-number.invariant.ends own vars l (found_stops a.code.now a.ctx.now a.event a.place _ _ (trigger a.ctx.now a.key.now own c.next_fitting-next.ensures c.in-Trigger.is) (omega arith)
-    (variables_are a.ctx.now own a.event a.key.now l c.set_variables.ensures) c.exec-ran.ensures told))
+    rw (err_from_is_err_and c.from_residual.result c.from_residual.ensures.1).1
+    (answers (sym c.in_err-exec.was) (c.loop-next.invariant.ends own vars l (found_stops a.script.bytes.now a.env.now.ctx (event_number a.event) a.written.place _ _ (trigger a.env.now.ctx a.event a.written.entry own c.next_fitting.ensures c.in-Some.is) (omega arith)
+    (variables_are a.env.now.ctx own a.event a.written.entry l c.set_variables.ensures) c.exec.ensures c.in_err-exec.was)))
 
 -- ---- the goals of `post`
 
 pub post-write-ran-requires : goal.post-write-ran-requires
 post-write-ran-requires t c =
-    let mine = c.requires.lent in
-    let lent = mine.0 in
+    let ready = c.requires.ready in
     let begun = c.begin-own.ensures in
-    let on : Lent c.args.code.now c.begin-own.new.sets c.args.run.now c.args.trace.now =
-    record { runnable = lent.runnable; public_is = begun_public begun ∙ lent.public_is; short = lent.short; room = lent.room } in
-    (omega (arith, c.decreases), ((on, mine.1, mine.2, under_way begun), c.requires.n_value))
+    (omega (arith, c.decreases), ((begun_public begun ∙ ready.public_is, ready.node, ready.user_below, under_way begun), c.requires.n_value))
 
 -- a posting of the program's own
 pub post-returns-then-own : goal.post-returns-then-own
 post-returns-then-own t c =
     let a = c.args in
-    let kind = c.requires.n_value in
     let own = c.if-own.true in
     let idles = sym c.begin-own.ensures.0 ∙ own in
-    own_posts a.code.now a.ctx.now (who_of a.who.now) a.n a.event kind.0 kind.1 kind.2 (sym c.requires.lent.3 ∙ idles) idles
+    own_posts a.script.bytes.now a.env.now.ctx a.env.now.who a.n a.event c.requires.n_value (sym c.requires.ready.own_is ∙ idles) idles
     (c.begin-own.ensures.1 own) c.write-ran.ensures c.end.ensures
 
 -- one of a trigger
 pub post-returns-else-own : goal.post-returns-else-own
 post-returns-else-own t c =
     let a = c.args in
-    let kind = c.requires.n_value in
     let other = c.if-own.false in
-    inner_posts a.code.now a.ctx.now (who_of a.who.now) a.n a.event kind.0 kind.1 kind.2
-    (sym c.requires.lent.3 ∙ sym c.begin-own.ensures.0 ∙ other) (c.begin-own.ensures.2 other) c.write-ran.ensures
+    inner_posts a.script.bytes.now a.env.now.ctx a.env.now.who a.n a.event c.requires.n_value
+    (sym c.requires.ready.own_is ∙ sym c.begin-own.ensures.0 ∙ other) (c.begin-own.ensures.2 other) c.write-ran.ensures
 
 -- ---- the goals of `repeat`
 
--- the test leads to no command
+-- the test stops
+pub repeat-returns-in_err-body : goal.repeat-returns-in_err-body
+repeat-returns-in_err-body t c =
+    let a = c.args in
+    let l = c.loop-body in
+    rw (err_from_is_err_and c.from_residual.result c.from_residual.ensures.1).1
+    (l.invariant.1.ends (while_stops a.script.bytes.now l.inner.ctx a.env.now.who a.n {x = store_of l.store} c.decide.ensures l.invariant.1.keeps.fits c.requires.n_value c.in_err-body.was))
+
+-- it is 0
 pub repeat-returns-in_default : goal.repeat-returns-in_default
 repeat-returns-in_default t c =
     let a = c.args in
     let l = c.loop-body in
-    answers c.ended.ensures (l.invariant.ends (while_ends a.code.now l.inner (who_of a.who.now) a.n {x = store l.cells l.sets l.run l.trace}
-    c.decide-next.ensures l.invariant.keeps.fits c.requires.n_value c.in_default.not-Enter))
+    l.invariant.1.ends (while_ends a.script.bytes.now l.inner.ctx a.env.now.who a.n {x = store_of l.store} c.decide.ensures l.invariant.1.keeps.fits c.requires.n_value
+    (c.in_ok-body.was ∙ ap Ok c.in_default.is))
 
 -- it leads to the body, and then the while is entered anew
-pub repeat-exec-ran-requires : goal.repeat-exec-ran-requires
-repeat-exec-ran-requires t c =
+pub repeat-exec-requires : goal.repeat-exec-requires
+repeat-exec-requires t c =
     let a = c.args in
-    let lent = c.requires.lent in
-    let goes = while_turns a.code.now a.ctx.now c.loop-body.inner (who_of a.who.now) a.n lent.0.runnable lent.1 c.requires.n_value
-    c.loop-body.invariant c.decide-next.ensures c.in-Enter.is in
-    (omega (arith, c.decreases, weight_kept a.code.now c.in-Enter.body goes.1.keeps), (lent_on lent.0 goes.1.keeps, goes.0, lent.2, idle_on lent.3 goes.1.keeps))
+    let goes = while_turns a.script.bytes.now a.env.now.ctx c.loop-body.inner.ctx a.env.now.who a.n a.script.runnable c.requires.ready.node c.requires.n_value
+    c.loop-body.invariant.1 c.decide.ensures (c.in_ok-body.was ∙ ap Ok c.in-Some.is) in
+    (omega (arith, c.decreases, weight_kept a.script.bytes.now c.in-Some.body goes.1.keeps), rw c.loop-body.invariant.0 (ready_on c.requires.ready goes.1.keeps goes.0))
 
 -- the body stops
-pub repeat-returns-in_default-ran : goal.repeat-returns-in_default-ran
-repeat-returns-in_default-ran t c =
+pub repeat-returns-in_err-exec : goal.repeat-returns-in_err-exec
+repeat-returns-in_err-exec t c =
     let a = c.args in
-    let lent = c.requires.lent in
-    let told = c.in_default-ran.is in
-    let goes = while_turns a.code.now a.ctx.now c.loop-body.inner (who_of a.who.now) a.n lent.0.runnable lent.1 c.requires.n_value
-    c.loop-body.invariant c.decide-next.ensures c.in-Enter.is in
-    answers (sym told) (goes.1.ends (then_stops (Enters a.code.now c.decide-next.new.inner (who_of a.who.now) a.n) c.exec-ran.ensures told))
+    let goes = while_turns a.script.bytes.now a.env.now.ctx c.loop-body.inner.ctx a.env.now.who a.n a.script.runnable c.requires.ready.node c.requires.n_value
+    c.loop-body.invariant.1 c.decide.ensures (c.in_ok-body.was ∙ ap Ok c.in-Some.is) in
+    let ran = rw c.loop-body.invariant.0 at c.exec.ensures in
+    rw (err_from_is_err_and c.from_residual-in_err-exec.result c.from_residual-in_err-exec.ensures.1).1
+    (answers (sym c.in_err-exec.was) (goes.1.ends (then_stops (Enters a.script.bytes.now c.decide.new.inner a.env.now.who a.n) ran c.in_err-exec.was)))
 
 -- the cost of the next test is paid
 pub repeat-loop-body-smaller : goal.repeat-loop-body-smaller
 repeat-loop-body-smaller t c =
     let a = c.args in
-    let paid = (priced a.code.now a.n (sym c.requires.n_value) c.pay-paid.ensures).paid c.in-Done-paid.is in
-    omega (arith, paid_less a.code.now a.n paid, c.exec-ran.ensures.leaves.within, c.decide-next.ensures.gives.within)
+    let paid = (priced a.script.bytes.now a.n (sym c.requires.n_value) c.pay.ensures).paid c.in_ok-pay.was in
+    omega (arith, paid_less a.script.bytes.now a.n paid, c.exec.ensures.leaves.within, c.decide.ensures.gives.within)
 
 pub repeat-loop-body-preserved : goal.repeat-loop-body-preserved
 repeat-loop-body-preserved t c =
     let a = c.args in
-    let lent = c.requires.lent in
-    let ran = c.exec-ran.ensures in
-    let paid = (priced a.code.now a.n (sym c.requires.n_value) c.pay-paid.ensures).paid c.in-Done-paid.is in
-    let goes = while_turns a.code.now a.ctx.now c.loop-body.inner (who_of a.who.now) a.n lent.0.runnable lent.1 c.requires.n_value
-    c.loop-body.invariant c.decide-next.ensures c.in-Enter.is in
-    record {
-      keeps = keeps_both goes.1.keeps (keeps_both (does_keeps ran) (paid_keeps a.code.now a.n (does_keeps ran).fits paid));
-      ends = λ d. goes.1.ends (then_goes ran c.in-Done.is (enters a.code.now a.n c.decide-next.new.inner (who_of a.who.now) paid d));
-    }
+    let ran = rw c.loop-body.invariant.0 at c.exec.ensures in
+    let paid = (priced a.script.bytes.now a.n (sym c.requires.n_value) c.pay.ensures).paid c.in_ok-pay.was in
+    let goes = while_turns a.script.bytes.now a.env.now.ctx c.loop-body.inner.ctx a.env.now.who a.n a.script.runnable c.requires.ready.node c.requires.n_value
+    c.loop-body.invariant.1 c.decide.ensures (c.in_ok-body.was ∙ ap Ok c.in-Some.is) in (
+      c.loop-body.invariant.0,
+      record {
+        keeps = keeps_both goes.1.keeps (keeps_both (does_keeps ran) (paid_keeps a.script.bytes.now a.n (does_keeps ran).fits paid));
+        ends = λ d. goes.1.ends (then_goes ran c.in_ok-exec.was (enters a.script.bytes.now a.n c.decide.new.inner a.env.now.who paid d));
+      },
+    )
 
 -- it would pass the budget
-pub repeat-returns-in_default-paid : goal.repeat-returns-in_default-paid
-repeat-returns-in_default-paid t c =
+pub repeat-returns-in_err-pay : goal.repeat-returns-in_err-pay
+repeat-returns-in_err-pay t c =
     let a = c.args in
-    let lent = c.requires.lent in
-    let ran = c.exec-ran.ensures in
-    let short = (priced a.code.now a.n (sym c.requires.n_value) c.pay-paid.ensures).short c.in_default-paid.is in
-    let goes = while_turns a.code.now a.ctx.now c.loop-body.inner (who_of a.who.now) a.n lent.0.runnable lent.1 c.requires.n_value
-    c.loop-body.invariant c.decide-next.ensures c.in-Enter.is in
-    goes.1.ends (then_goes ran c.in-Done.is (enters_not a.code.now a.n c.decide-next.new.inner (who_of a.who.now) short (does_keeps ran).fits))
+    let ran = rw c.loop-body.invariant.0 at c.exec.ensures in
+    let short = (priced a.script.bytes.now a.n (sym c.requires.n_value) c.pay.ensures).short c.in_err-pay.was in
+    let goes = while_turns a.script.bytes.now a.env.now.ctx c.loop-body.inner.ctx a.env.now.who a.n a.script.runnable c.requires.ready.node c.requires.n_value
+    c.loop-body.invariant.1 c.decide.ensures (c.in_ok-body.was ∙ ap Ok c.in-Some.is) in
+    rw (err_from_is_err_and c.from_residual-in_err-pay.result c.from_residual-in_err-pay.ensures.1).1
+    (goes.1.ends (then_goes ran c.in_ok-exec.was (enters_not a.script.bytes.now a.n c.decide.new.inner a.env.now.who short (does_keeps ran).fits)))
 
 -- ---- the goals of `write`
 
 pub write-fire-requires : goal.write-fire-requires
 write-fire-requires t c =
-    let mine = c.requires.lent in
-    let lent = mine.0 in
-    let writes = c.post-posted.ensures in
-    let on : Lent c.args.code.now c.post-posted.new.sets c.post-posted.new.run c.args.trace.now =
-    record { runnable = lent.runnable; public_is = writes.public_same ∙ lent.public_is; short = lent.short; room = omega (arith, lent.room, writes.used_same) } in
-    (omega (arith, c.decreases, writes.within), (on, writes.inside _ c.in-At.is, idle_same _ _ _ _ writes.undo_same ∙ mine.3))
+    let lent = c.requires.lent in
+    let writes = c.post.ensures.writes in
+    (omega (arith, c.decreases, writes.within), (writes.public_same ∙ lent.0, writes.inside _ c.in_ok-written.was, idle_same _ _ _ _ writes.undo_same ∙ lent.3))
 
 -- the triggers, in the context with the key's label
 pub write-returns : goal.write-returns
 write-returns t c =
-    let writes = c.post-posted.ensures in
-    let told = c.in-At.is in
-    writes.goes c.in-At.place told c.args.trace.now c.requires.lent.0.room (c.fire.ensures writes.own (vars_of c.args.vars.now c.args.tags.now) (writes.label_is c.in-At.place told))
+    let writes = c.post.ensures.writes in
+    let told = c.in_ok-written.was in
+    writes.goes _ told (rw c.post.ensures.who_same at (c.fire.ensures writes.own (vars_of c.args.vars.now) (writes.label_is _ told)))

@@ -4,6 +4,3 @@ use Rattle.encoder.proofs.put_pairs.Given as goal
 
 abbrev pub invariant-loop-section : goal.invariant-loop-section
 invariant-loop-section l = Paired l.file l.cells l.behind l.initial.out l.at l.out l.distance l.section
-
-abbrev pub decreases-loop-section : goal.decreases-loop-section
-decreases-loop-section l = l.section

@@ -1,5 +1,5 @@
 -- `expressions::eval`, `part` and `query` meet their contracts, by recursion over node number.
-use Prim.Native.Nat.{◌+◌, ◌-◌, ◌*◌}
+use Prim.Native.Nat.{◌+◌, ◌*◌}
 use Rattle.machine.specs.Store.{cells_held, vars_of}
 use Rattle.expressions.proofs.Bounds.{Bounding}
 use Rattle.expressions.proofs.+eval_part_query.Given as goal
@@ -14,10 +14,7 @@ decreases-part l = 3 * l.n + 2
 abbrev pub decreases-query : goal.decreases-query
 decreases-query l = 3 * l.n
 
--- the loop over the bounds: what holds at bound i, and how many are to come
+-- the loop over the bounds: what holds at bound i
 abbrev pub invariant-query-loop-i : goal.invariant-query-loop-i
 invariant-query-loop-i l =
-    Bounding l.code l.n (cells_held l.cells l.sets) (vars_of l.vars l.tags) l.initial.run l.initial.label l.i l.bounds l.run l.label
-
-abbrev pub decreases-query-loop-i : goal.decreases-query-loop-i
-decreases-query-loop-i l = 4 - l.i
+    Bounding l.scene.script.bytes.now l.n (cells_held l.scene.amounts.now l.scene.sets.now) (vars_of l.scene.vars.now) l.initial.run l.initial.label l.i l.bounds l.run l.label

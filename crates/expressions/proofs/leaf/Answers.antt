@@ -6,14 +6,15 @@ use native.Mathlib.Omega.{arith}
 use lib.IntN.{pos}
 use lib.ListN.{get_or}
 use mir.Syntax.{w32}
+use Rattle.std.proofs.lemmas.Result.{err_from_is_err_and}
 use Rattle.book.specs.Bytes.{byte}
 use Rattle.book.specs.Kinds.{expression}
 use Rattle.machine.specs.Script.{script_of, Runnable, Node}
 use Rattle.machine.specs.Store.{vars_of}
-use Rattle.machine.proofs.Nodes.{variable_p}
+use Rattle.machine.proofs.Nodes.{read, kind_inside, variable_p}
 use Rattle.expressions.proofs.Signed.{kept}
 use Rattle.expressions.proofs.Parts.{node_in, constant_gives, variable_gives}
-use Rattle.expressions.proofs.Entries.{read, inside, kind_inside, leaf_kind, stops_21, pays}
+use Rattle.expressions.proofs.Entries.{leaf_kind, stops_21, pays}
 use Rattle.expressions.proofs.leaf.Goals as goal
 
 -- ---- what the call is given, past the test of 1
@@ -27,30 +28,38 @@ module _ {code : List ℕ} {n : ℕ} (runs : Runnable code) (node : Node express
 
 -- ---- its needs
 
-pub pay-paid-requires : goal.pay-paid-requires
-pay-paid-requires c = (c.requires.0, kind_inside c.requires.0 c.requires.1, inside c.requires.0 c.requires.1)
+pub pay-requires : goal.pay-requires
+pay-requires c = kind_inside c.args.scene.now.script.runnable c.requires.0
 
-pub returns-in_default : goal.returns-in_default
-returns-in_default c cells = stops_21 c.requires.0 c.requires.1 c.pay-paid.ensures c.in_default.is
+pub returns-in_err-pay : goal.returns-in_err-pay
+returns-in_err-pay c cells =
+    rw (err_from_is_err_and c.from_residual.result c.from_residual.ensures.1).1
+    (stops_21 c.args.scene.now.script.runnable c.requires.0 c.pay.ensures c.in_err-pay.was)
 
 pub returns-then-kind-eq1 : goal.returns-then-kind-eq1
 returns-then-kind-eq1 c cells =
-    let r = read c.requires.0 c.requires.1 in
+    let runs = c.args.scene.now.script.runnable in
+    let r = read runs c.requires.0 in
     let k = c.i32_at in
     rw (kept w32 k.result k.type_inv, k.ensures ∙ r.k)
-    (pays c.requires.0 c.requires.1 c.pay-paid.ensures c.in-Done.is
-    (constant_gives c.args.code.now c.args.n (sym r.kind ∙ c.if-kind-eq1.true) c.told-label))
-
-pub bounds-tags-p : goal.bounds-tags-p
-bounds-tags-p c = rw (c.byte_at-p.ensures.0 ∙ (read c.requires.0 c.requires.1).p) (variable_below c.requires.0 c.requires.1 c.requires.2 c.if-kind-eq1.false)
+    (pays runs c.requires.0 c.pay.ensures c.in_ok-pay.was
+    (constant_gives c.args.scene.now.script.bytes.now c.args.n (sym r.kind ∙ c.if-kind-eq1.true) c.told-label))
 
 pub bounds-vars-p : goal.bounds-vars-p
-bounds-vars-p c = rw (c.byte_at-p.ensures.0 ∙ (read c.requires.0 c.requires.1).p) (variable_below c.requires.0 c.requires.1 c.requires.2 c.if-kind-eq1.false)
+bounds-vars-p c =
+    let runs = c.args.scene.now.script.runnable in
+    rw (c.byte_at-p.ensures.0 ∙ (read runs c.requires.0).p) (variable_below runs c.requires.0 c.requires.1 c.if-kind-eq1.false)
+
+pub bounds-vars-p-2 : goal.bounds-vars-p-2
+bounds-vars-p-2 c =
+    let runs = c.args.scene.now.script.runnable in
+    rw (c.byte_at-p.ensures.0 ∙ (read runs c.requires.0).p) (variable_below runs c.requires.0 c.requires.1 c.if-kind-eq1.false)
 
 pub returns : goal.returns
 unfolding vars_of
 returns c cells =
-    let v = get_or c.args.vars.now c.byte_at-p.result (pos 0) in
-    rw (kept w32 v (omega arith), c.join.ensures, c.byte_at-p.ensures.0 ∙ (read c.requires.0 c.requires.1).p)
-    (pays c.requires.0 c.requires.1 c.pay-paid.ensures c.in-Done.is
-    (variable_gives c.args.code.now c.args.n (is_2 c.requires.0 c.requires.1 c.requires.2 c.if-kind-eq1.false)))
+    let runs = c.args.scene.now.script.runnable in
+    let v = get_or c.args.scene.now.vars.now.values c.byte_at-p.result (pos 0) in
+    rw (kept w32 v (omega arith), c.join.ensures, c.byte_at-p.ensures.0 ∙ (read runs c.requires.0).p)
+    (pays runs c.requires.0 c.pay.ensures c.in_ok-pay.was
+    (variable_gives c.args.scene.now.script.bytes.now c.args.n (is_2 runs c.requires.0 c.requires.1 c.if-kind-eq1.false)))

@@ -1,6 +1,5 @@
 -- `kinds::costs` meets its contract: the costs of the kinds passed are stored.
 use mathlib.Core.Path.{refl, sym, ap, ◌∙◌}
-use Prim.Native.Nat.{◌<◌}
 use borrow.Author.Rules.{rules}
 use Rattle.places.proofs.Loops.{filled_turn, filled_end}
 use Rattle.book.specs.Kinds.{cost_of, row_of}
@@ -14,10 +13,8 @@ loop-kind-init c = record { at = search rules; words = refl }
 pub loop-kind-preserved : goal.loop-kind-preserved
 unfolding row_of
 loop-kind-preserved c =
-    let l = c.before.before.before.before in
-    let lt : l.loop-kind.kind < 27 = c.before.before.before.loop-kind-test.true in
-    let cost = ap (λ (r : Row). r.cost) c.before.row_at-row.ensures ∙ sym (tabulate_at cost_of 27 l.loop-kind.kind 0 lt) in
-    filled_turn (length_tabulate cost_of 27) refl lt cost l.loop-kind.invariant
+    let cost = ap (λ (r : Row). r.cost) c.row_at-row.ensures ∙ sym (tabulate_at cost_of 27 c.loop-kind.kind 0 c.loop-kind-test.true) in
+    filled_turn (length_tabulate cost_of 27) refl c.loop-kind-test.true cost c.loop-kind.invariant
 
 pub returns : goal.returns
-returns c = filled_end (length_tabulate cost_of 27) refl c.loop-kind-test.false c.before.loop-kind.invariant
+returns c = filled_end (length_tabulate cost_of 27) refl c.loop-kind-test.false c.loop-kind.invariant

@@ -1,5 +1,4 @@
 -- `kinds::costs` meets its contract: the costs of the kinds passed are stored.
-use Prim.Native.Nat.{◌-◌}
 use lib.ListN.{replicate}
 use Rattle.places.proofs.Loops.{Filled}
 use Rattle.book.specs.Start.{tabulate}
@@ -8,6 +7,3 @@ use Rattle.kinds.proofs.costs.Given as goal
 
 abbrev pub invariant-loop-kind : goal.invariant-loop-kind
 invariant-loop-kind l = Filled 27 (tabulate cost_of 27) (replicate 27 0) l.costs l.kind
-
-abbrev pub decreases-loop-kind : goal.decreases-loop-kind
-decreases-loop-kind l = 27 - l.kind

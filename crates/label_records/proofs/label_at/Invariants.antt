@@ -1,5 +1,4 @@
 -- `label_records::label_at` meets its contract: the words so far are read.
-use Prim.Native.Nat.{◌-◌}
 use Rattle.places.specs.Sets.{empty}
 use Rattle.places.proofs.Loops.{Filled}
 use Rattle.label_records.proofs.Labels.{read_label}
@@ -7,6 +6,3 @@ use Rattle.label_records.proofs.label_at.Given as goal
 
 abbrev pub invariant-loop-word : goal.invariant-loop-word
 invariant-loop-word l = Filled 8 (read_label l.file l.at) (empty 8) l.label l.word
-
-abbrev pub decreases-loop-word : goal.decreases-loop-word
-decreases-loop-word l = 8 - l.word

@@ -16,9 +16,6 @@ use Rattle.loader.proofs.load_cells.Tie as tie
 use Rattle.loader.proofs.load_cells.Lts as lts
 use Rattle.loader.proofs.load_cells.Reads as reads
 
-pub clear-requires : goal.clear-requires
-clear-requires c = c.before.before.requires.1
-
 pub section_at-cells-requires : goal.section_at-cells-requires
 section_at-cells-requires c =
     let s = c.before.before.before.before.before in
@@ -28,10 +25,10 @@ section_at-cells-requires c =
 pub loop-cell-init : goal.loop-cell-init
 loop-cell-init c =
     let s = c.before.before.before.before.before.before in
-    loading_none s.args.file.now s.requires.0 c.section_at-cells.ensures c.before.before.clear.ensures
+    loading_none s.args.file.now s.requires.0 c.section_at-cells.ensures (rw s.requires.1 at c.before.before.fill.ensures.after (λ y h. h))
 
 -- the place read is one of the 512
-in_range : (c : lts.After-i32_at tie.the-claims reads.Pre reads.Post goal.the-invariant-loop-cell goal.the-decreases-loop-cell) → c.before.place_at-place.result < 512
+in_range : (c : lts.After-i32_at tie.the-claims reads.Pre reads.Post goal.the-invariant-loop-cell goal.the-decreases-loop-cell tie.handed_clauses) → c.before.place_at-place.result < 512
 in_range c =
     let l = c.before.before.before in
     let s = l.before.before.before.before.before.before in
@@ -56,9 +53,6 @@ offset_bounds-set-place-in-loop-cell c = omega (arith, in_range c.before)
 
 pub bounds-set-place-in-loop-cell : goal.bounds-set-place-in-loop-cell
 bounds-set-place-in-loop-cell c = omega (arith, in_range c.before)
-
-pub loop-cell-smaller : goal.loop-cell-smaller
-loop-cell-smaller c = omega arith
 
 pub loop-cell-preserved : goal.loop-cell-preserved
 loop-cell-preserved c =

@@ -4,6 +4,3 @@ use Rattle.loader.proofs.load_cells.Given as goal
 
 abbrev pub invariant-loop-cell : goal.invariant-loop-cell
 invariant-loop-cell l = Loading l.file l.start l.amounts l.set l.cell
-
-abbrev pub decreases-loop-cell : goal.decreases-loop-cell
-decreases-loop-cell l = l.cell

@@ -48,9 +48,6 @@ set_label-requires c =
     let s = l.before.before.before.before.before.before.before.before.before in
     omega (arith, c.before.before.place_at-place.ensures, turn_place s.args.file.now s.requires.0 l.before.loop-label.invariant.reading (more l), labelling_length l.before.loop-label.invariant)
 
-pub loop-label-smaller : goal.loop-label-smaller
-loop-label-smaller c = omega arith
-
 pub loop-label-preserved : goal.loop-label-preserved
 loop-label-preserved c =
     let l = c.before.before.before.before.before.before.before in

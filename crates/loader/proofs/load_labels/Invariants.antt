@@ -4,6 +4,3 @@ use Rattle.loader.proofs.load_labels.Given as goal
 
 abbrev pub invariant-loop-label : goal.invariant-loop-label
 invariant-loop-label l = Labelling l.file l.start l.labels l.label
-
-abbrev pub decreases-loop-label : goal.decreases-loop-label
-decreases-loop-label l = l.label

@@ -15,7 +15,7 @@ pub returns : goal.returns
 unfolding region_places
 returns c =
     let s = c.before.before in
-    let region = region_of (get_or (script_of s.args.code.now).regions s.args.region no_region) in
+    let region = region_of (get_or (script_of s.args.script.bytes.now).regions s.args.region no_region) in
     c.holds.ensures
     ∙ ap (λ (r : Region). in_region r s.args.place) c.before.region_of.ensures.0
-    ∙ sym (rw (lt-ltb s.args.place 512 s.requires.2) at (has_region 8 region s.args.place))
+    ∙ sym (rw (lt-ltb s.args.place 512 s.requires.1) at (has_region 8 region s.args.place))

@@ -1,5 +1,5 @@
 -- `nodes::first_bad_node` meets its contract: no node before the one that is tested is bad, and their sorts are noted.
-use Prim.Native.Nat.{ℕ, ◌≤◌, ◌-◌}
+use Prim.Native.Nat.{ℕ, ◌≤◌}
 use Rattle.book.specs.Records.{Book}
 use Rattle.book.specs.Layout.{decode}
 use Rattle.book.specs.Kinds.{sort_of}
@@ -15,6 +15,3 @@ sort_at b i = sort_of (node_at b i).kind
 abbrev pub invariant-loop-node : goal.invariant-loop-node
 invariant-loop-node l =
     (l.node ≤ l.nodes.count) × NoneBelow (bad_node (decode l.file)) l.node × Noted (sort_at (decode l.file)) 0 l.sorts l.node
-
-abbrev pub decreases-loop-node : goal.decreases-loop-node
-decreases-loop-node l = l.nodes.count - l.node

@@ -1,4 +1,6 @@
 -- `queries::start` meets its contract.
+use Prim.Native.Nat.{ℕ}
+use native.Mathlib.Omega.{arith}
 use borrow.Author.Tests.{ne_eqb}
 use Rattle.queries.specs.Tallies.{start_of}
 use Rattle.queries.proofs.start.Goals as goal
@@ -18,6 +20,5 @@ returns-in-10 c = rw c.in-10.is
 pub returns-in_default : goal.returns-in_default
 unfolding start_of
 returns-in_default c =
-    let kind = c.before.args.kind in
-    let others = c.in_default.in_default-own.rest in
-    rw (ne_eqb kind 8 others.0.0.1, ne_eqb kind 9 others.0.1, ne_eqb kind 10 others.1)
+    let kind : ℕ = c.args.kind in
+    rw (ne_eqb kind 8 (omega arith), ne_eqb kind 9 (omega arith), ne_eqb kind 10 (omega arith))

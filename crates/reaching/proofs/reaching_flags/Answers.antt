@@ -15,10 +15,10 @@ pub loop-flagged-init : goal.loop-flagged-init
 loop-flagged-init c = (omega arith, noted_none refl)
 
 -- the node whose flag is next is there
-abbrev start : lts.Then1 tie.the-claims reads.Pre reads.Post goal.the-invariant-loop-flagged goal.the-decreases-loop-flagged tie.handed_clauses → lts.Start tie.the-claims reads.Pre reads.Post goal.the-invariant-loop-flagged goal.the-decreases-loop-flagged tie.handed_clauses
-start c = c.before.before.before.before
+abbrev start : lts.In-loop tie.the-claims reads.Pre reads.Post goal.the-invariant-loop-flagged goal.the-decreases-loop-flagged tie.handed_clauses → lts.Start tie.the-claims reads.Pre reads.Post goal.the-invariant-loop-flagged goal.the-decreases-loop-flagged tie.handed_clauses
+start c = c.before.before.before
 
-there : (c : lts.Then1 tie.the-claims reads.Pre reads.Post goal.the-invariant-loop-flagged goal.the-decreases-loop-flagged tie.handed_clauses) → c.before.before.loop-flagged.flagged < count (start c).args.file.now 3
+there : (c : lts.In-loop tie.the-claims reads.Pre reads.Post goal.the-invariant-loop-flagged goal.the-decreases-loop-flagged tie.handed_clauses) → c.before.loop-flagged.flagged < count (start c).args.file.now 3
 there c =
     let e = ap (λ (x : Section). x.count) (start c).requires.laid.1 in
     rw e at c.loop-flagged-test.true
@@ -27,30 +27,22 @@ pub reaches-flag-requires : goal.reaches-flag-requires
 reaches-flag-requires c =
     let t = c.before.before in
     let x = start t in
-    record { laid = (x.requires.laid.0, x.requires.laid.1, there t); file_value = x.requires.file_value; by_index = t.before.before.loop-flagged.invariant.1.right }
+    record { laid = (x.requires.laid.0, x.requires.laid.1, there t); file_value = x.requires.file_value; by_index = t.before.loop-flagged.invariant.1.right }
 
 -- and has a place in the table
-placed : (c : lts.Then1 tie.the-claims reads.Pre reads.Post goal.the-invariant-loop-flagged goal.the-decreases-loop-flagged tie.handed_clauses) → c.before.before.loop-flagged.flagged < 1024
+placed : (c : lts.In-loop tie.the-claims reads.Pre reads.Post goal.the-invariant-loop-flagged goal.the-decreases-loop-flagged tie.handed_clauses) → c.before.loop-flagged.flagged < 1024
 placed c = omega (arith, there c, few_nodes (start c).args.file.now (start c).requires.laid.0)
 
 pub bounds-flags-flagged : goal.bounds-flags-flagged
 bounds-flags-flagged c = placed c.before.before.before
 
-pub overflow_add-flagged : goal.overflow_add-flagged
-overflow_add-flagged c = omega (arith, placed c.before.before.before)
-
-pub loop-flagged-smaller : goal.loop-flagged-smaller
-loop-flagged-smaller c =
-    let t = c.before.before.before in
-    omega (arith, t.loop-flagged-test.true)
-
 pub loop-flagged-preserved : goal.loop-flagged-preserved
 loop-flagged-preserved c =
     let t = c.before.before.before in
-    (omega (arith, t.loop-flagged-test.true), noted_next (placed t) c.reaches-flag.ensures t.before.before.loop-flagged.invariant.1)
+    (omega (arith, t.loop-flagged-test.true), noted_next (placed t) c.reaches-flag.ensures t.before.loop-flagged.invariant.1)
 
 pub returns : goal.returns
 returns c =
-    let l = c.before.before.before in
+    let l = c.before in
     let e = ap (λ (x : Section). x.count) l.before.before.requires.laid.1 in
     λ i h. l.loop-flagged.invariant.1.right i (omega (arith, e, h, c.loop-flagged-test.false))

@@ -1,5 +1,5 @@
 -- `reaching::reaching_flags` meets its contract: the flags of the nodes passed are right.
-use Prim.Native.Nat.{◌≤◌, ◌-◌}
+use Prim.Native.Nat.{◌≤◌}
 use mathlib.Core.Bool.{false}
 use Rattle.book.specs.Layout.{count, decode}
 use Rattle.book.specs.Refusals.{reaches}
@@ -8,6 +8,3 @@ use Rattle.reaching.proofs.reaching_flags.Given as goal
 
 abbrev pub invariant-loop-flagged : goal.invariant-loop-flagged
 invariant-loop-flagged l = (l.flagged ≤ l.nodes.count) × Noted (reaches (decode l.file) (count l.file 3)) false l.flags l.flagged
-
-abbrev pub decreases-loop-flagged : goal.decreases-loop-flagged
-decreases-loop-flagged l = l.nodes.count - l.flagged

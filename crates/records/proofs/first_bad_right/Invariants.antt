@@ -1,5 +1,4 @@
 -- `records::first_bad_right` meets its contract: none of the rights before the loop's is bad.
-use Prim.Native.Nat.{◌-◌}
 use Rattle.book.specs.Layout.{decode}
 use Rattle.book.specs.Refusals.{bad_right}
 use Rattle.book.proofs.Scans.{Scan}
@@ -7,6 +6,3 @@ use Rattle.records.proofs.first_bad_right.Given as goal
 
 abbrev pub invariant-loop-right : goal.invariant-loop-right
 invariant-loop-right l = Scan l.file 2 4 (bad_right (decode l.file)) l.start l.count l.right
-
-abbrev pub decreases-loop-right : goal.decreases-loop-right
-decreases-loop-right l = l.count - l.right

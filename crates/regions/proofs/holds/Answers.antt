@@ -1,29 +1,20 @@
--- `regions::holds` meets its contract.
-use Prim.Native.Nat.{◌/◌}
-use borrow.Author.Tests.{eq-eqb, ne_eqb, not-true, not-false}
+-- `regions::holds` meets its contract: the table is tested, then the owner, then the line.
+use Rattle.std.proofs.Common.{sym, ◌∙◌, true≢false}
+use borrow.Author.Tests.{eq-eqb, ne_eqb}
 use Rattle.regions.specs.Regions.{in_region}
 use Rattle.regions.proofs.holds.Goals as goal
+use Rattle.regions.proofs.holds.Goals.{then-place-region, else-place-region}
 
-pub returns-then-place-region : goal.returns-then-place-region
+pub returns-then-contains : goal.returns-then-contains
 unfolding in_region
-returns-then-place-region c =
-    let s = c.before.before in
-    rw (ne_eqb (s.args.place / 64) s.args.region.table c.if-place-region.true)
+returns-then-contains c = elim c.if-place-region.branch [
+  | then-place-region w ↦ rw (eq-eqb _ _ w.if-place-region.true, ← w.contains.ensures, sym w.value-is ∙ c.if-contains.true) c.contains-then-contains.ensures
+  | else-place-region w ↦ absurd (true≢false (sym c.if-contains.true ∙ w.value-is ∙ ne_eqb _ _ w.if-place-region.false))
+]
 
-pub returns-then-not-ranges : goal.returns-then-not-ranges
+pub returns-else-contains : goal.returns-else-contains
 unfolding in_region
-returns-then-not-ranges c =
-    let s = c.before.before.before.before.before in
-    rw (eq-eqb (s.args.place / 64) s.args.region.table c.before.before.before.if-place-region.false, ← c.before.ranges-2.ensures, not-true c.before.ranges-2.result c.if-not-ranges.true-raw)
-
-pub returns : goal.returns
-unfolding in_region
-returns c =
-    let tested = c.before.before in
-    let s = tested.before.before.before.before.before in
-    rw (
-      eq-eqb (s.args.place / 64) s.args.region.table tested.before.before.before.if-place-region.false,
-      ← tested.before.ranges-2.ensures,
-      not-false tested.before.ranges-2.result tested.if-not-ranges.false-raw,
-      ← c.ranges-3.ensures,
-    )
+returns-else-contains c = elim c.if-place-region.branch [
+  | then-place-region w ↦ rw (eq-eqb _ _ w.if-place-region.true, ← w.contains.ensures, sym w.value-is ∙ c.if-contains.false) c.if-contains.false
+  | else-place-region w ↦ rw (ne_eqb _ _ w.if-place-region.false) (w.value-is ∙ ne_eqb _ _ w.if-place-region.false)
+]

@@ -4,7 +4,4 @@ use Rattle.rights.proofs.Rights.{Gathering}
 use Rattle.rights.proofs.right_set.Given as goal
 
 abbrev pub invariant-loop-right : goal.invariant-loop-right
-invariant-loop-right l = Gathering (script_of l.code) l.kind l.user l.set l.right
-
-abbrev pub decreases-loop-right : goal.decreases-loop-right
-decreases-loop-right l = l.right
+invariant-loop-right l = Gathering (script_of l.script.bytes.now) l.kind l.user l.set l.right

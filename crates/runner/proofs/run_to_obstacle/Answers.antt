@@ -14,28 +14,28 @@ returns-then-trace-gt65536 c =
     let left = refuses c.args.file.now c.args.budget c.args.amounts.now c.args.presence.now c.args.labels.now c.args.trace.now c.args.obstacle.now (trace_over c.args.file.now c.args.budget c.args.amounts.now c.args.presence.now c.args.labels.now c.args.trace.now (omega (arith, c.if-trace-gt65536.true))) in
     record { ran = left.0; in_the_way = left.1 }
 
-pub returns-then-not-lengths_fit : goal.returns-then-not-lengths_fit
-returns-then-not-lengths_fit c =
-    let left = refuses c.args.file.now c.args.budget c.args.amounts.now c.args.presence.now c.args.labels.now c.args.trace.now c.args.obstacle.now (lengths_other c.args.file.now c.args.budget c.args.amounts.now c.args.presence.now c.args.labels.now c.args.trace.now (sym c.lengths_fit.ensures ∙ c.if-not-lengths_fit.true)) in
+pub returns-then-not-lent_fits : goal.returns-then-not-lent_fits
+returns-then-not-lent_fits c =
+    let left = refuses c.args.file.now c.args.budget c.args.amounts.now c.args.presence.now c.args.labels.now c.args.trace.now c.args.obstacle.now (lengths_other c.args.file.now c.args.budget c.args.amounts.now c.args.presence.now c.args.labels.now c.args.trace.now (sym c.lent_fits.ensures ∙ c.if-not-lent_fits.true)) in
     record { ran = left.0; in_the_way = left.1 }
 
 -- past the tests: budget, trace and lent memory are as they should be
 pub started-requires : goal.started-requires
 started-requires c = (
-  sym c.inspect.ensures ∙ c.in-Accepted.is,
-  lengths_are c.args.file.now c.args.budget c.args.amounts.now c.args.presence.now c.args.labels.now c.args.trace.now (sym c.lengths_fit.ensures ∙ c.if-not-lengths_fit.false),
+  sym c.inspect.ensures ∙ c.in-Ok.is,
+  lengths_are c.args.file.now c.args.budget c.args.amounts.now c.args.presence.now c.args.labels.now c.args.trace.now (sym c.lent_fits.ensures ∙ c.if-not-lent_fits.false),
   omega (arith, c.if-trace-gt65536.false),
 )
 
 -- and the file decides
-pub returns-in-Refused : goal.returns-in-Refused
-returns-in-Refused c =
-    let decides = file_decides c.args.file.now c.args.budget c.args.amounts.now c.args.presence.now c.args.labels.now c.args.trace.now (omega (arith, c.if-budget-gt1000000.false)) (omega (arith, c.if-trace-gt65536.false)) (sym c.lengths_fit.ensures ∙ c.if-not-lengths_fit.false) in
-    let left = refuses c.args.file.now c.args.budget c.args.amounts.now c.args.presence.now c.args.labels.now c.args.trace.now c.args.obstacle.now (decides ∙ sym c.inspect.ensures ∙ c.in-Refused.is) in
+pub returns-in-Err : goal.returns-in-Err
+returns-in-Err c =
+    let decides = file_decides c.args.file.now c.args.budget c.args.amounts.now c.args.presence.now c.args.labels.now c.args.trace.now (omega (arith, c.if-budget-gt1000000.false)) (omega (arith, c.if-trace-gt65536.false)) (sym c.lent_fits.ensures ∙ c.if-not-lent_fits.false) in
+    let left = refuses c.args.file.now c.args.budget c.args.amounts.now c.args.presence.now c.args.labels.now c.args.trace.now c.args.obstacle.now (decides ∙ sym c.inspect.ensures ∙ c.in-Err.is) in
     record { ran = left.0; in_the_way = left.1 }
 
-pub returns-in-Accepted : goal.returns-in-Accepted
-returns-in-Accepted c =
-    let decides = file_decides c.args.file.now c.args.budget c.args.amounts.now c.args.presence.now c.args.labels.now c.args.trace.now (omega (arith, c.if-budget-gt1000000.false)) (omega (arith, c.if-trace-gt65536.false)) (sym c.lengths_fit.ensures ∙ c.if-not-lengths_fit.false) in
-    let left = runs c.args.file.now c.args.budget c.args.amounts.now c.args.presence.now c.args.labels.now c.args.trace.now c.args.obstacle.now (decides ∙ sym c.inspect.ensures ∙ c.in-Accepted.is) (c.started.ensures.ran, c.started.ensures.in_the_way) in
+pub returns-in-Ok : goal.returns-in-Ok
+returns-in-Ok c =
+    let decides = file_decides c.args.file.now c.args.budget c.args.amounts.now c.args.presence.now c.args.labels.now c.args.trace.now (omega (arith, c.if-budget-gt1000000.false)) (omega (arith, c.if-trace-gt65536.false)) (sym c.lent_fits.ensures ∙ c.if-not-lent_fits.false) in
+    let left = runs c.args.file.now c.args.budget c.args.amounts.now c.args.presence.now c.args.labels.now c.args.trace.now c.args.obstacle.now (decides ∙ sym c.inspect.ensures ∙ c.in-Ok.is) (c.started.ensures.ran, c.started.ensures.in_the_way) in
     record { ran = left.0; in_the_way = left.1 }

@@ -29,7 +29,7 @@ pub sort_at-requires : goal.sort_at-requires
 sort_at-requires c =
     let s = c.before.before.before.before in
     let h : s.args.i < count s.args.file.now 3 = rw (← number s) c.if-nodes-i.false in
-    (s.requires.0, s.requires.1, h, s.requires.2)
+    (s.requires.0, s.requires.1, h)
 
 pub returns : goal.returns
 unfolding is_command

@@ -48,7 +48,7 @@ Left c tests = let s = c.args.file.now in trigger_fits (decode s) (triggers_form
 -- ---- the region
 
 pub overflow_cast-file : goal.overflow_cast-file
-overflow_cast-file c = omega (arith, c.shared_slice_known-2-1.given c.before.before.args.at)
+overflow_cast-file c = omega (arith, c.shared_slice_known-2-1.given c.args.at)
 
 regions : (c : lts.Start tie.the-claims reads.Pre reads.Post tie.handed_clauses) → length (decode c.args.file.now).regions ≡ c.args.regions
 regions c = count_regions c.args.file.now ∙ sym c.requires.laid.2
@@ -111,7 +111,7 @@ past_zero c = past_user c.before.before ∙ pass (eq-eqb _ _ c.if-file-at-ne0.fa
 pub is_command-requires : goal.is_command-requires
 is_command-requires c =
     let x = start_5 c.before.before in
-    (x.requires.laid.0, x.requires.laid.1, x.requires.laid.4)
+    (x.requires.laid.0, x.requires.laid.1)
 
 -- the call's answer is about the body
 said : (c : lts.After-is_command tie.the-claims reads.Pre reads.Post tie.handed_clauses) → let x = start_5 c.before.before in is_command (decode x.args.file.now) (le16 x.args.file.now (x.args.at + 4)) ≡ c.is_command.result

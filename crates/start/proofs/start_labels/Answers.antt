@@ -1,73 +1,41 @@
 -- `start::start_labels` meets its contract: the labels of the records from `label` on are stored.
-use Prim.Native.Nat.{◌+◌, ◌-◌, ◌*◌, ◌≤◌, ◌<◌}
-use lib.ListN.{length}
+use mathlib.Core.Path.{◌≡◌, ap, ◌∙◌}
+use mathlib.Core.List.{List}
+use Prim.Native.Nat.{ℕ, ◌<◌}
+use native.Mathlib.Omega.{arith}
+use lib.ListN.{length, length-replicate}
+use Rattle.places.specs.Sets.{empty}
 use Rattle.label_records.proofs.Turns.{laid_out, turn_inside, turn_place}
 use Rattle.start.proofs.Labels.{labelling_none, labelling_turn, labelling_done}
-use native.Mathlib.Omega.{arith}
 use Rattle.start.proofs.start_labels.Goals as goal
-use Rattle.start.proofs.start_labels.Tie as tie
-use Rattle.start.proofs.start_labels.Lts as lts
-use Rattle.start.proofs.start_labels.Reads as reads
+use Rattle.start.proofs.start_labels.Goals.{After-label_at}
 
 pub label_section-section-requires : goal.label_section-section-requires
-label_section-section-requires c =
-    let s = c.before.before.before.before in
-    laid_out s.args.file.now s.requires.0
+label_section-section-requires c = laid_out c.args.file.now c.requires.0
 
 pub loop-label-init : goal.loop-label-init
-loop-label-init c =
-    let s = c.before.before.before.before.before in
-    labelling_none s.args.file.now s.requires.0 c.label_section-section.ensures c.before.own_labels.ensures
-
--- a record is left
-more : (c : lts.In-loop tie.the-claims reads.Pre reads.Post goal.the-invariant-loop-label goal.the-decreases-loop-label) → 0 < c.before.loop-label.label
-more c = omega (arith, c.loop-label-test.true)
-
--- the record at the loop's turn lies in the file
-inside : (c : lts.In-loop tie.the-claims reads.Pre reads.Post goal.the-invariant-loop-label goal.the-decreases-loop-label)
-    → c.before.before.label_section-section.result.start + (c.before.loop-label.label - 1) * 66 + 66 ≤ length c.before.before.before.before.before.before.args.file.now
-inside c =
-    let s = c.before.before.before.before.before.before in
-    turn_inside s.args.file.now s.requires.0 c.before.loop-label.invariant.reading (more c)
-
-pub overflow_mul-at : goal.overflow_mul-at
-overflow_mul-at c = omega (arith, inside c.before)
-
-pub overflow_add-at : goal.overflow_add-at
-overflow_add-at c = omega (arith, inside c.before)
+loop-label-init c = labelling_none c.args.file.now c.requires.0 c.label_section-section.ensures c.own_labels.ensures
 
 pub place_at-place-requires : goal.place_at-place-requires
-place_at-place-requires c = inside c.before
+place_at-place-requires c = turn_inside c.args.file.now c.requires.0 c.loop-label.invariant.reading (omega (arith, c.loop-label-test.true))
 
-pub label_at-requires : goal.label_at-requires
-label_at-requires c = inside c.before.before
+-- there are 512 labels
+long : (c : After-label_at) → length c.loop-label.labels ≡ 512
+long c = c.loop-label.auto.labels ∙ c.own_labels.auto.labels ∙ ap (λ (l : List (List ℕ)). length l) c.requires.1 ∙ length-replicate 512 (empty 8)
 
--- its place is one of the 512
-near : (c : lts.After-label_at tie.the-claims reads.Pre reads.Post goal.the-invariant-loop-label goal.the-decreases-loop-label) → c.before.place_at-place.result < 512
-near c =
-    let l = c.before.before in
-    let s = l.before.before.before.before.before.before in
-    rw c.before.place_at-place.ensures (turn_place s.args.file.now s.requires.0 l.before.loop-label.invariant.reading (more l))
+-- the place of a record is one of them
+near : (c : After-label_at) → c.place_at-place.result < 512
+near c = rw c.place_at-place.ensures (turn_place c.args.file.now c.requires.0 c.loop-label.invariant.reading (omega (arith, c.loop-label-test.true)))
 
-pub overflow_add-place : goal.overflow_add-place
-overflow_add-place c = omega (arith, near c.before)
+pub offset_bounds-labels-place : goal.offset_bounds-labels-place
+offset_bounds-labels-place c = omega (arith, near c)
 
-pub offset_bounds-sets-place : goal.offset_bounds-sets-place
-offset_bounds-sets-place c = omega (arith, near c.before)
-
-pub bounds-sets-place : goal.bounds-sets-place
-bounds-sets-place c = omega (arith, near c.before, c.before.before.before.loop-label.invariant.long)
-
-pub loop-label-smaller : goal.loop-label-smaller
-loop-label-smaller c = omega arith
+pub bounds-labels-place : goal.bounds-labels-place
+bounds-labels-place c = omega (arith, near c, long c)
 
 pub loop-label-preserved : goal.loop-label-preserved
 loop-label-preserved c =
-    let l = c.before.before.before in
-    let s = l.before.before.before.before.before.before in
-    labelling_turn s.args.file.now s.requires.0 l.before.loop-label.invariant (more l) _ _ c.before.place_at-place.ensures c.label_at.ensures
+    labelling_turn c.args.file.now c.requires.0 c.loop-label.invariant (omega (arith, c.loop-label-test.true)) (long c) _ _ c.place_at-place.ensures c.label_at.ensures
 
 pub returns : goal.returns
-returns c =
-    let s = c.before.before.before.before.before.before.before in
-    labelling_done s.args.file.now s.requires.0 c.before.loop-label.invariant (omega arith)
+returns c = labelling_done c.args.file.now c.requires.0 c.loop-label.invariant (omega (arith, c.loop-label-test.false))

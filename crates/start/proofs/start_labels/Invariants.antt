@@ -3,7 +3,4 @@ use Rattle.start.proofs.Labels.{Labelling}
 use Rattle.start.proofs.start_labels.Given as goal
 
 abbrev pub invariant-loop-label : goal.invariant-loop-label
-invariant-loop-label l = Labelling l.file l.start l.sets l.label
-
-abbrev pub decreases-loop-label : goal.decreases-loop-label
-decreases-loop-label l = l.label
+invariant-loop-label l = Labelling l.file l.start l.labels l.label

@@ -135,12 +135,6 @@ overflow_mul-end c = omega (arith, bytes_le c.before.before.before)
 pub overflow_add-end : goal.overflow_add-end
 overflow_add-end c = omega (arith, bytes_le c.before.before.before, back c.before.before.before.before.before.before.before.before)
 
-pub overflow_add-pair : goal.overflow_add-pair
-overflow_add-pair c = omega (arith, listed c.before.before.before.before.before.before)
-
-pub loop-pair-smaller : goal.loop-pair-smaller
-loop-pair-smaller c = omega (arith, c.before.before.before.before.before.loop-pair-test.true)
-
 pub loop-pair-preserved : goal.loop-pair-preserved
 loop-pair-preserved c =
     let l = c.before.before.before.before.before.before.before.before.before.before in

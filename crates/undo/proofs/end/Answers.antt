@@ -1,10 +1,9 @@
 -- `undo::end` meets its contract.
-use mathlib.Core.Path.{refl}
 use Rattle.undo.proofs.Back.{ends_done, ends_stopped}
 use Rattle.undo.proofs.end.Goals as goal
 
-pub returns-in-Done : goal.returns-in-Done
-returns-in-Done c = rw c.in-Done.is (ends_done c.args.amounts.now c.args.sets.now _ c.all-2-1.given refl)
+pub returns-in-Ok : goal.returns-in-Ok
+returns-in-Ok c = rw c.in-Ok.is (ends_done c.args.amounts.now c.args.sets.now)
 
-pub returns-in-Stopped : goal.returns-in-Stopped
-returns-in-Stopped c = rw c.in-Stopped.is (ends_stopped c.args.amounts.now c.args.sets.now _ c.all-2-1.given refl c.take_back.ensures)
+pub returns-in-Err : goal.returns-in-Err
+returns-in-Err c = rw c.in-Err.is (ends_stopped c.args.amounts.now c.args.sets.now c.take_back.ensures)

@@ -16,23 +16,23 @@ use Rattle.writer.proofs.write_book.Lts as lts
 use Rattle.writer.proofs.write_book.Reads as reads
 
 -- the cells are written, and the file's other sections are found
-bytes : (c : lts.After-label_section tie.the-claims reads.Pre reads.Post) → Bytes c.before.before.before.before.before.before.before.before.before.before.before.args.file.now
+bytes : (c : lts.After-label_section tie.the-claims reads.Pre reads.Post tie.handed_clauses) → Bytes c.before.before.before.before.before.before.before.before.before.before.before.args.file.now
 bytes c = record { fits = λ i. (c.before.before.before.before.before.before.before.before.before.before.shared_slice_known-1.given i).fits }
 
-end_is : (c : lts.After-label_section tie.the-claims reads.Pre reads.Post)
+end_is : (c : lts.After-label_section tie.the-claims reads.Pre reads.Post tie.handed_clauses)
     → let s = c.before.before.before.before.before.before.before.before.before.before.before in
     c.before.before.before.before.write_cells-cells.result ≡ length (cells_below s.args.amounts.now s.args.presence.now 512)
-end_is c = rw c.before.before.before.before.before.before.set_in-set.ensures at c.before.before.before.before.write_cells-cells.ensures.0
+end_is c = rw c.before.before.before.before.before.before.copy_from_slice.ensures.after at c.before.before.before.before.write_cells-cells.ensures.0
 
-others_are : (c : lts.After-label_section tie.the-claims reads.Pre reads.Post) → c.before.section_at-regions.result.start ≡ count c.before.before.before.before.before.before.before.before.before.before.before.args.file.now 0 * 8
+others_are : (c : lts.After-label_section tie.the-claims reads.Pre reads.Post tie.handed_clauses) → c.before.section_at-regions.result.start ≡ count c.before.before.before.before.before.before.before.before.before.before.before.args.file.now 0 * 8
 others_are c =
     let s = c.before.before.before.before.before.before.before.before.before.before.before in
     ap (λ (x : Section). x.start) c.before.section_at-regions.ensures ∙ (placed s.args.file.now s.requires.0).regions_start
 
-till_is : (c : lts.After-label_section tie.the-claims reads.Pre reads.Post) → c.label_section-old_labels.result.start ≡ (label_section c.before.before.before.before.before.before.before.before.before.before.before.args.file.now).start
+till_is : (c : lts.After-label_section tie.the-claims reads.Pre reads.Post tie.handed_clauses) → c.label_section-old_labels.result.start ≡ (label_section c.before.before.before.before.before.before.before.before.before.before.before.args.file.now).start
 till_is c = ap (λ (x : Section). x.start) c.label_section-old_labels.ensures
 
-known : (c : lts.After-label_section tie.the-claims reads.Pre reads.Post)
+known : (c : lts.After-label_section tie.the-claims reads.Pre reads.Post tie.handed_clauses)
     → let s = c.before.before.before.before.before.before.before.before.before.before.before in
     let w = c.before.before.before.before.write_cells-cells in
     Numbers s.args.file.now (bytes c) s.requires.0 s.args.amounts.now s.args.presence.now s.args.labels.now w.result c.before.section_at-regions.result.start
@@ -44,7 +44,7 @@ known c =
     c.label_section-old_labels.result.start w.ensures.2 (others_are c) (till_is c) (end_is c)
 
 -- the label records are written
-known_labels : (c : lts.After-write_labels tie.the-claims reads.Pre reads.Post)
+known_labels : (c : lts.After-write_labels tie.the-claims reads.Pre reads.Post tie.handed_clauses)
     → let d = c.before.before.before.before.before.before.before.before in
     let s = d.before.before.before.before.before.before.before.before.before.before.before in
     let w = d.before.before.before.before.write_cells-cells in
@@ -108,7 +108,7 @@ returns c =
     book_steps s.args.file.now (bytes d) s.requires.0 s.args.amounts.now s.args.presence.now s.args.labels.now w.result d.before.section_at-regions.result.start
     d.label_section-old_labels.result.start w.ensures.2 (others_are d) (till_is d) (end_is d) e.write_labels-end.result e.write_labels-end.ensures.0
     s.args.out.now _ _ _ _ s.requires.4
-    (rw d.before.before.before.before.before.before.set_in-set.ensures at w.ensures.1)
+    (rw d.before.before.before.before.before.before.copy_from_slice.ensures.after at w.ensures.1)
     c.before.before.before.before.before.before.before.before.before.before.copy_part.ensures
     e.write_labels-end.ensures.1
     c.before.before.write_tail.ensures
