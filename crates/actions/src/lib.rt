@@ -20,15 +20,31 @@ pub fn act(
 ) -> Result<(), Stopped>
     requires public_set { Public script.bytes.now store.old.sets }
     requires node { Node command (script_of script.bytes.now) n × (between 18 22 (node_at (script_of script.bytes.now) n).kind ≡ false) }
-    ensures { Does (Commands script.entry.bytes.now env.now.ctx env.now.who n)
+    ensures acts { Does (Commands script.entry.bytes.now env.now.ctx env.now.who n)
         (vars_of vars.old) (store_of store.old) result (vars_of vars.new) (store_of store.new) }
+    ensures amounts_same { store.new.amounts ≡ store.old.amounts }
 {
     let bytes = script.bytes;
     match bytes[16 * n] {
-        17 => assignments::assign(script, n, env, vars, store),
-        23 => outputs::out(script, n, env, vars, store),
+        17 => assignments::assign(
+            script,
+            n,
+            &env.ctx,
+            vars,
+            &store.amounts,
+            &mut store.sets,
+            &mut store.run,
+        ),
+        23 => outputs::out(script, n, &env.ctx, vars, store),
         24 | 25 => grants::change(script, n, env, store),
-        26 => assignments::raise(script, n, env, vars, store),
+        26 => assignments::raise(
+            script,
+            n,
+            &env.ctx,
+            &mut vars.labels,
+            &mut store.sets,
+            &mut store.run,
+        ),
         _ => Ok(()),
     }
 }

@@ -6,7 +6,7 @@ use Rattle.labels.proofs.Labels.{length_by, label_by}
 use Rattle.book.specs.Records.{records, section_bytes, cells_format, regions_format, rights_format, nodes_format, programs_format, triggers_format, label_of, labels_format}
 use Rattle.book.specs.Layout.{in_order, six_bounds, decode}
 use Rattle.book.specs.Kinds.{cost_of, sort_of, fields_of, row_of}
-use Rattle.book.specs.Refusals.{and_then, need, first, blame, length_fits, marked, mark_fits, sections_fit, cell_fits, rises, bad_cell, region_fits, bad_region, right_fits, bad_right, field_fits, is_zero, node_fits, is_command, program_fits, bad_program, forbidden, reaches, trigger_fits, bad_trigger, label_fits, bad_label, book_verdict, verdict}
+use Rattle.book.specs.Refusals.{and_then, need, first, blame, length_fits, marked, mark_fits, sections_fit, cell_fits, rises, bad_cell, region_fits, bad_region, right_fits, bad_right, field_fits, is_zero, node_fits, is_command, program_fits, bad_program, forbidden, reaches, trigger_fits, bad_trigger, label_fits, bad_label, book_verdict, verdict, verdict_values}
 use Rattle.book.specs.Start.{tabulate, amount_at, start_amounts, start_presence, remembered, start_labels, rights_hold, right_set}
 use Rattle.book.specs.Encode.{six_extents, distance_to_end, pairs, other_sections, tail_bytes, encode, picked, with_cells}
 use Rattle.book.specs.Tables.{w_file, w_file_2}
@@ -14,7 +14,7 @@ use Rattle.book.proofs.Remembered.{length_remembered}
 use Rattle.book.specs.Examples.{each_file, each_file_2, large_trailer, large_tail, Examples}
 
 pub worked_examples : Examples
-unfolding has word_of set_of single same_words in_region records section_bytes cells_format regions_format rights_format nodes_format programs_format triggers_format label_of labels_format in_order six_bounds decode cost_of sort_of fields_of row_of and_then need first blame length_fits marked mark_fits sections_fit cell_fits rises bad_cell region_fits bad_region right_fits bad_right field_fits is_zero node_fits is_command program_fits bad_program forbidden reaches trigger_fits bad_trigger label_fits bad_label book_verdict verdict tabulate amount_at start_amounts start_presence remembered start_labels rights_hold right_set six_extents distance_to_end pairs other_sections tail_bytes encode picked with_cells w_file w_file_2 each_file each_file_2 large_trailer large_tail
+unfolding has word_of set_of single same_words in_region records section_bytes cells_format regions_format rights_format nodes_format programs_format triggers_format label_of labels_format in_order six_bounds decode cost_of sort_of fields_of row_of and_then need first blame length_fits marked mark_fits sections_fit cell_fits rises bad_cell region_fits bad_region right_fits bad_right field_fits is_zero node_fits is_command program_fits bad_program forbidden reaches trigger_fits bad_trigger label_fits bad_label book_verdict verdict verdict_values tabulate amount_at start_amounts start_presence remembered start_labels rights_hold right_set six_extents distance_to_end pairs other_sections tail_bytes encode picked with_cells w_file w_file_2 each_file each_file_2 large_trailer large_tail
 worked_examples = record {
   files = record {
     lengths = record { passes = refl; fails = refl };
@@ -29,11 +29,13 @@ worked_examples = record {
     most = refl;
     most_six = refl;
     verdicts = refl;
+    numbers = refl;
   };
   records = record {
     firsts = refl;
     first_of_none = refl;
     verdicts = refl;
+    numbers = refl;
     cells = record { passes = refl; fails = refl };
     order = record { passes = refl; fails = refl };
     regions = record { passes = refl; fails = refl };

@@ -8,7 +8,7 @@ use Rattle.book.specs.Records.{CellRecord, RegionRecord, RightRecord, NodeRecord
 use Rattle.book.specs.Layout.{Bound, bounds, in_order, decode}
 use Rattle.book.specs.Kinds as kinds
 use Rattle.book.specs.Kinds.{no_kind, expression, command, unused, table, user, region, right, row_of}
-use Rattle.book.specs.Refusals.{first, length_fits, mark_fits, sections_fit, cell_fits, no_cell, rises, no_label, labelled, label_fits, region_fits, right_fits, field_fits, node_fits, program_fits, forbidden, reaches, trigger_fits, book_verdict, verdict, refusal_of}
+use Rattle.book.specs.Refusals.{first, length_fits, mark_fits, sections_fit, cell_fits, no_cell, rises, no_label, labelled, label_fits, region_fits, right_fits, field_fits, node_fits, program_fits, forbidden, reaches, trigger_fits, book_verdict, verdict, verdict_values, refusal_of}
 use Rattle.book.specs.Start.{Lengths, tabulate, start_amounts, start_presence, remembered, start_labels, public_set, read_sets, write_sets}
 use Rattle.book.specs.Encode.{tail_bytes, encode, labels_from, with_cells}
 use Rattle.book.specs.Tables.{cell, table_region, owner_region, public, may_read, may_write, node, constant, variable, plus, count, skip, assign, both, if, while, put, clear, out, grant_read, grant_write, revoke_read, raise, program, trigger, remember, w_file, w_file_2, w_book, with_byte, one_more, one_less, ◌⇒◌, Gives, Tells}
@@ -368,6 +368,8 @@ pub record FileExamples : Type 0 where
       ∷ w_mark_bad ⇒ Err (refusal_of reasons.Mark 0)
       ∷ w_length_bad ⇒ Err (refusal_of reasons.Length 0)
       ∷ [])
+  -- in the paper's numbers
+  pub numbers : Gives (λ s. (verdict_values (verdict s)).number) (w_file ⇒ 0 ∷ w_cell_bad ⇒ 5 ∷ w_count_bad ⇒ 4 ∷ w_mark_bad ⇒ 3 ∷ w_length_bad ⇒ 2 ∷ [])
 
 -- refusals 5 to 10 and 32
 pub record RecordExamples : Type 0 where
@@ -386,6 +388,17 @@ pub record RecordExamples : Type 0 where
       ∷ followed [] [] [] [] [] [] (remember 512 [] ∷ []) ⇒ Err (refusal_of reasons.Label 3)
       ∷ followed cell_last [] [] [] [] [] [] ⇒ Err (refusal_of reasons.Cell 2)
       ∷ followed [] [] [] [] [] [] [] ⇒ Ok tt
+      ∷ [])
+  -- in the paper's numbers
+  pub numbers : Gives (λ b. (verdict_values (book_verdict b)).number)
+      (followed cell_last region_last right_last node_last program_last trigger_last label_last ⇒ 5
+      ∷ followed [] region_last right_last node_last program_last trigger_last label_last ⇒ 6
+      ∷ followed [] [] right_last node_last program_last trigger_last label_last ⇒ 7
+      ∷ followed [] [] [] node_last program_last trigger_last label_last ⇒ 8
+      ∷ followed [] [] [] [] program_last trigger_last label_last ⇒ 9
+      ∷ followed [] [] [] [] [] trigger_last label_last ⇒ 10
+      ∷ followed [] [] [] [] [] [] label_last ⇒ 32
+      ∷ followed [] [] [] [] [] [] [] ⇒ 0
       ∷ [])
   -- 5: table, owner, line up to 7, and a byte 0
   pub cells : Tells cell_fits

@@ -18,8 +18,8 @@ fn digest_of_rights(file: &[u8]) -> u32 {
             start::copy_script(file, &mut bytes);
             let script = Script { bytes: &bytes };
             let public = rights::public_set(script);
-            let read = rights::right_sets(script, Right::Read);
-            let write = rights::right_sets(script, Right::Write);
+            let read = rights::right_sets(script, Right::Read.number());
+            let write = rights::right_sets(script, Right::Write.number());
             mixed_sets(mixed_sets(case_lines::mixed_words(1, &public), read), write)
         }
         Err(_) => 0,

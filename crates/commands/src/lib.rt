@@ -1,7 +1,7 @@
 // Commands and triggers: execution and firing call each other, with what is left of the budget and trigger numbers falling.
 #![tactic(auto)]
 
-ghost use Rattle.std.specs.Prelude.{◌≡◌, true, false, ℕ, ◌+◌, ◌<◌, ℤ};
+ghost use Rattle.std.specs.Prelude.{◌≡◌, true, false, ℕ, ◌+◌, ◌<◌, ℤ, replicate};
 ghost use Rattle.places.specs.Sets.{union};
 ghost use Rattle.book.specs.Kinds.{command, between};
 ghost use Rattle.book.specs.Refusals.{node_at};
@@ -201,8 +201,28 @@ fn write(
 {
     let mut inner = *env;
     let mut label = [0u64; 8];
-    let written = puts::post(script, n, event, &mut inner, vars, store, &mut label)?;
+    let written = puts::post(
+        script,
+        n,
+        event,
+        &mut inner,
+        vars,
+        &mut store.amounts,
+        &mut store.sets,
+        &mut store.run,
+        &mut label,
+    )?;
     fire(script, event, written, &inner, &label, store)
+}
+
+// Makes the label of each variable this one, in place: sixteen labels in an array of their own would be copied into the struct, 1,024 bytes for each
+// trigger that runs.
+fn label_all(labels: &mut [[u64; 8]; 16], label: &[u64; 8])
+    ensures { labels.new ≡ replicate 16 label.now }
+{
+    for p in 0..16 {
+        labels[p] = *label;
+    }
 }
 
 // Runs the triggers that fit a write, by number, a turn for each; a trigger's writes fire only those above it. Its variables are owner, line and
@@ -223,14 +243,15 @@ fn fire(
 {
     let mut from = env.who.above;
     loop {
-        let Some(next) = triggers::next_fitting(script, from, event, written.place) else {
+        let Some(next) = triggers::next_fitting(script, from, event as u8, written.place) else {
             return Ok(());
         };
         from = next.number + 1;
         let mut vars = Variables {
             values: [0; 16],
-            labels: [env.ctx; 16],
+            labels: [[0u64; 8]; 16],
         };
+        label_all(&mut vars.labels, &env.ctx);
         triggers::set_variables(written.entry, label, &mut vars);
         let its = Env {
             ctx: env.ctx,

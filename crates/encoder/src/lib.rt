@@ -50,12 +50,15 @@ fn put_cell(out: &mut [u8], at: usize, place: usize, amount: i32)
     put_u32(out, at + 4, bits);
 }
 
-// Copies `count` bytes of `source` from `from` on to `at`; the other bytes stay.
+// Copies `count` bytes of `source` from `from` on to `at`; the other bytes stay. Byte by byte: std's copy of a slice would have the library for C
+// ask its caller for `memmove`.
 pub fn copy_part(source: &[u8], from: usize, count: usize, out: &mut [u8], at: usize)
     requires { (from + count ≤ length source.now) × (at + count ≤ length out.old) }
     ensures { out.new ≡ take at out.old ++ take count (drop from source.now) ++ drop (at + count) out.old }
 {
-    out[at..at + count].copy_from_slice(&source[from..from + count]);
+    for copied in 0..count {
+        out[at + copied] = source[from + copied];
+    }
 }
 
 // Writes the records of the present cells from byte 0 on, places rising; answers how many bytes that is. Later bytes stay. The bit is tested

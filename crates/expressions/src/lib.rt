@@ -27,7 +27,8 @@ fn combined(kind: u8, a: i32, b: i32) -> i64
     }
 }
 
-// 1 a constant, 2 a variable, whose label is joined to `label`.
+// 1 a constant, 2 a variable, whose label is joined to `label`. In line, since most expressions are leaves.
+#[inline(always)]
 fn leaf(scene: &Scene, n: usize, run: &mut Run, label: &mut [u64; 8]) -> Result<i32, Stopped>
     requires { Node expression (script_of scene.now.script.bytes.now) n × ((node_at (script_of scene.now.script.bytes.now) n).kind < 3) }
     ensures { (cells : ℕ → Lab Cell) → Gives (Evaluates scene.now.script.bytes.now n) cells
@@ -80,6 +81,7 @@ pub fn eval(scene: &Scene, n: usize, run: &mut Run, label: &mut [u64; 8]) -> Res
 
 // The same for a part of another: most are leaves, and are evaluated without a call of `eval`, which has a large frame.
 #[cycle(eval_part_query)]
+#[inline(always)]
 fn part(scene: &Scene, n: usize, run: &mut Run, label: &mut [u64; 8]) -> Result<i32, Stopped>
     requires { Node expression (script_of scene.now.script.bytes.now) n }
     ensures { Gives (Evaluates scene.now.script.bytes.now n) (cells_held scene.now.amounts.now scene.now.sets.now)

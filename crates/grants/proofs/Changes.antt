@@ -33,6 +33,7 @@ use Rattle.machine.specs.declared.lent.Run.{Run}
 use Rattle.machine.specs.declared.lent.Sets.{Sets}
 use Rattle.machine.proofs.Nodes as nodes
 use Rattle.machine.proofs.Nodes.{read_at, change_p, change_a, change_b}
+use Rattle.machine.proofs.Stores.{users_same}
 use Rattle.machine.proofs.Runs.{need_holds, need_fails, with_run, comes_to, does_as, stops_on, stops_outside}
 use Rattle.grants.specs.Rights.{altered, right_of, kind_of, Alters}
 use Rattle.traces.proofs.Records.{recorded_run, tell_full, tell_writes, changed_recorded}
@@ -63,17 +64,12 @@ module _ (code : List ℕ) (n : ℕ) (v : Runnable code) (g : Of code n) where
 
 -- ---- the sets
 
-stored : (sets : Sets) (right : Right) (users : List (List ℕ)) → users_of (with_users sets right users) right ≡ users
-unfolding users_of with_users
-stored sets Read users = refl
-stored sets Write users = refl
-
 -- sets with other users' sets for a right, of which one is altered
 pub alters : {sets sets' : Sets} {right : Right} {user : ℕ} {grants : Bool} {region : Label} (users : List (List ℕ)) → sets' ≡ with_users sets right users
     → rows users ≡ update (rows (users_of sets right)) user (altered grants (rows (users_of sets right) user) region) → Alters sets right user grants region sets'
 alters {sets} {right = right} users e u = rw e (record {
-  others_same = ap (with_users sets right) (sym (stored sets right users));
-  users_are = rw (stored sets right users) u;
+  others_same = ap (with_users sets right) (sym (users_same sets right users));
+  users_are = rw (users_same sets right users) u;
 })
 
 -- the users' sets for a right are neither the public set nor of the cells, nor of what a posting keeps

@@ -1,10 +1,10 @@
 -- A grant or a revoke: one user's set after it, the right that its node names, and the kind of its trace record.
-use Rattle.std.specs.Prelude.{◌≡◌, Bool, cond, ℕ, eqb}
+use Rattle.std.specs.Prelude.{◌≡◌, List, Bool, cond, ℕ, ℤ, eqb}
 use Rattle.places.specs.Sets.{union, difference}
 use Rattle.monitor.specs.Labelled.{Label}
 use Rattle.monitor.specs.Run.{update}
 use Rattle.monitor.specs.Call.{rows}
-use Rattle.machine.specs.Store.{users_of, with_users}
+use Rattle.machine.specs.Store.{users_of, with_users, Store, store}
 use Rattle.machine.specs.declared.lent.Right.{Right}
 use Rattle.machine.specs.declared.lent.Right.TheVariants.{Read, Write}
 use Rattle.machine.specs.declared.lent.Sets.{Sets}
@@ -26,3 +26,7 @@ kind_of grants Write = cond grants 3 5
 pub record Alters (sets : Sets) (right : Right) (user : ℕ) (grants : Bool) (region : Label) (sets' : Sets) : Type 0 where
   pub others_same : sets' ≡ with_users sets right (users_of sets' right)
   pub users_are : rows (users_of sets' right) ≡ update (rows (users_of sets right)) user (altered grants (rows (users_of sets right) user) region)
+
+-- a store with other amounts, of which a grant or a revoke looks at none
+abbrev pub with_amounts : List ℤ → Store → Store
+with_amounts amounts x = store amounts x.sets x.run x.trace x.loan

@@ -1,7 +1,7 @@
 // Commands that change the rights: grant and revoke.
 #![tactic(auto)]
 
-ghost use Rattle.std.specs.Prelude.{◌≡◌, true, ◌∷◌, ◌++◌, ℕ, ◌+◌, ◌≤◌, ◌<◌, ℤ, eqb, length, drop};
+ghost use Rattle.std.specs.Prelude.{◌≡◌, true, List, ◌∷◌, ◌++◌, ℕ, ◌+◌, ◌≤◌, ◌<◌, ℤ, eqb, length, drop};
 ghost use Rattle.book.specs.Bytes.{byte, le16, four};
 ghost use Rattle.book.specs.Kinds.{command, between};
 ghost use Rattle.book.specs.Refusals.{node_at};
@@ -12,7 +12,7 @@ ghost use Rattle.monitor.specs.Call.{rows};
 ghost use Rattle.machine.specs.Script.{script_of, Node};
 ghost use Rattle.machine.specs.Store.{store_of, Public};
 ghost use Rattle.machine.specs.Promises.{Does, Commands};
-ghost use Rattle.grants.specs.Rights.{altered, right_of, kind_of, Alters};
+ghost use Rattle.grants.specs.Rights.{altered, right_of, kind_of, Alters, with_amounts};
 
 use machine::{Env, Right, Script, Sets, Stopped, Store};
 
@@ -76,12 +76,14 @@ fn alter(script: Script, at: usize, sets: &mut Sets, rest: &mut [u8])
     machine::store_users(sets, right, next);
 }
 
-// 24 grant and 25 revoke: region a for user p, in the read sets or the write sets. Stops 28, 29 and 30.
+// 24 grant and 25 revoke: region a for user p, in the read sets or the write sets. Stops 28, 29 and 30. It looks at no amount: what is promised
+// holds for any.
 pub fn change(script: Script, n: usize, env: &Env, store: &mut Store) -> Result<(), Stopped>
     requires public_set { Public script.bytes.now store.old.sets }
     requires node { Node command (script_of script.bytes.now) n × (between 24 25 (node_at (script_of script.bytes.now) n).kind ≡ true) }
-    ensures { (vars : ℕ → Lab ℤ) → Does (Commands script.entry.bytes.now env.now.ctx env.now.who n)
-        vars (store_of store.old) result vars (store_of store.new) }
+    ensures changes { (vars : ℕ → Lab ℤ) (amounts : List ℤ) → Does (Commands script.entry.bytes.now env.now.ctx env.now.who n)
+        vars (with_amounts amounts (store_of store.old)) result vars (with_amounts amounts (store_of store.new)) }
+    ensures amounts_same { store.new.amounts ≡ store.old.amounts }
 {
     if env.who.user != 0 {
         return Err(machine::stop(&mut store.run, 28, n));

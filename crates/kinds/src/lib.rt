@@ -6,6 +6,7 @@ ghost use Rattle.book.specs.Layout.{count, section, decode};
 ghost use Rattle.book.specs.Start.{tabulate};
 ghost use Rattle.book.specs.Kinds.{cost_of, row_of, sort_of};
 ghost use Rattle.book.specs.Refusals.{Laid, node_at};
+ghost use Rattle.kinds.specs.Table.{kinds_table};
 
 // The sorts of node. A field that names a child has the child's sort as its role.
 pub const NO_KIND: u8 = 0;
@@ -58,6 +59,13 @@ static KINDS: [[u8; 8]; 27] = [
     [1, 2, 3, 6, 0, 0, 0, 0], // 26 raise variable p by region a
 ];
 
+// The table.
+pub fn table() -> [[u8; 8]; 27]
+    ensures { result ≡ kinds_table }
+{
+    KINDS
+}
+
 // Row `at` of the table.
 fn row_at(at: usize) -> book::Row
     requires { at < 27 }
@@ -91,10 +99,11 @@ pub fn row_of(kind: u8) -> book::Row
 pub fn costs() -> [u32; 27]
     ensures { result ≡ tabulate cost_of 27 }
 {
+    let table = table();
     let mut costs = [0u32; 27];
     for kind in 0..27 {
-        let row = row_at(kind);
-        costs[kind] = row.cost as u32;
+        let row = table[kind];
+        costs[kind] = row[0] as u32;
     }
     costs
 }

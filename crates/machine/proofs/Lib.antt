@@ -1,3 +1,4 @@
+pub mod Events
 pub mod Nodes
 pub mod Runs
 pub mod Scripts

@@ -17,9 +17,11 @@ use Rattle.places.proofs.Sets.{union_word, difference_word, has_union, has_diffe
 use Rattle.monitor.specs.Labelled.{Label, Lab}
 use Rattle.monitor.specs.Run.{Cell, Compared, update}
 use Rattle.monitor.specs.Call.{rows}
+use Rattle.machine.specs.declared.lent.Right.{Right}
+use Rattle.machine.specs.declared.lent.Right.TheVariants.{Read, Write}
 use Rattle.machine.specs.declared.lent.Sets.{Sets}
 use Rattle.machine.specs.declared.lent.Variables.{Variables}
-use Rattle.machine.specs.Store.{row_at, with_compared, cells_held, idle, began, undo_of, SameState, vars_of, cell}
+use Rattle.machine.specs.Store.{row_at, users_of, with_users, with_compared, cells_held, idle, began, undo_of, rights_in, SameState, vars_of, cell}
 
 -- the update of f at p is what holds a at p and else what f holds
 pub updated : {A : Type 0} {f g : ℕ → A} {p : ℕ} {a : A} → g p ≡ a → ((q : ℕ) → (q ≡ p → ⊥) → g q ≡ f q) → g ≡ update f p a
@@ -38,6 +40,32 @@ module _ (sets : List (List ℕ)) (i : ℕ) (label : Label) where
 
   pub row_other : (j : ℕ) → (j ≡ i → ⊥) → row_at (set sets i label) j ≡ row_at sets j
   row_other j d = get_or-set_other sets i j label [] d
+
+-- ---- sets of a run that are stored: they are read back, and the others stay, since storing the old ones again gives the sets as they were
+
+module _ (sets : Sets) (right : Right) (users : List (List ℕ)) where
+  pub users_same : users_of (with_users sets right users) right ≡ users
+  unfolding users_of with_users
+  users_same = go right
+    where
+      go : (right : Right) → users_of (with_users sets right users) right ≡ users
+      go Read = refl
+      go Write = refl
+
+  pub users_other : with_users (with_users sets right users) right (users_of sets right) ≡ sets
+  unfolding users_of with_users
+  users_other = go right
+    where
+      go : (right : Right) → with_users (with_users sets right users) right (users_of sets right) ≡ sets
+      go Read = refl
+      go Write = refl
+
+module _ (sets : Sets) (c : Compared) where
+  pub compared_same : ◌≡◌ {A = Compared} (record { tested = (with_compared sets c).tested; bound = (with_compared sets c).bound }) c
+  compared_same = refl
+
+  pub compared_other : with_compared (with_compared sets c) (record { tested = sets.tested; bound = sets.bound }) ≡ sets
+  compared_other = refl
 
 -- ---- the users' sets
 
@@ -121,6 +149,22 @@ module _ (presence : List ℕ) (q : ℕ) (h : q < 512) (l : length presence ≡ 
       go (yes e) = in_word put j e ∙ rw (has_single 8 q j, ne_eqb j q d) (kept put (has presence j) (ltb j 512))
       go (no e) = same_word (marked put) presence j (get_or-set_other presence (q / 64) (j / 64) _ 0 e)
 
+-- ---- a state
+
+-- users' sets that stay leave the rights
+pub rights_same : (sets sets' : Sets) → sets'.read ≡ sets.read → sets'.write ≡ sets.write → rights_in sets' ≡ rights_in sets
+rights_same sets sets' read write = λ i. record { read = rows (read i); write = rows (write i) }
+
+-- sets that differ in none of what the rules speak of
+pub same_state : (amounts : List ℤ) (sets sets' : Sets) → sets'.present ≡ sets.present → sets'.public ≡ sets.public → sets'.read ≡ sets.read → sets'.write ≡ sets.write
+    → ((q : ℕ) → row_at sets'.labels q ≡ row_at sets.labels q) → SameState amounts sets sets'
+unfolding cells_held
+same_state amounts sets sets' present public read write labels = record {
+  cells_same = λ i q. record { val = record { present = has (present i) q; amount = get_or amounts q (pos 0) }; lab = labels q i };
+  rights_same = rights_same sets sets' read write;
+  public_same = public;
+}
+
 -- ---- a posting that is under way
 
 -- what a stop would take back is the same where a posting is under way in both, and each cell would come back as the same
@@ -158,8 +202,7 @@ began_same amounts amounts' sets sets' e busy =
 -- ---- a stop about labels: what it compared is none of the state, and none of what a posting keeps
 
 pub compares_same : (amounts : List ℤ) (sets : Sets) (c : Compared) → SameState amounts sets (with_compared sets c)
-unfolding cells_held
-compares_same amounts sets c = record { cells_same = refl; rights_same = refl; public_same = refl }
+compares_same amounts sets c = same_state amounts sets (with_compared sets c) refl refl refl refl (λ q. refl)
 
 pub compares_undo : (amounts : List ℤ) (sets : Sets) (c : Compared) → undo_of amounts (with_compared sets c) ≡ undo_of amounts sets
 unfolding undo_of began
@@ -188,3 +231,9 @@ module _ (sets : Sets) (q event : ℕ) (label : Label) (h : q < 512) (l : length
       updated
       (rw (has_here sets.present q h l (eqb event 1), get_or-set_same amounts q z (pos 0) (omega arith), row_same sets.labels q label (omega (arith, long))))
       (λ j d. rw (has_elsewhere sets.present q h l (eqb event 1) j d, get_or-set_other amounts q j z (pos 0) d, row_other sets.labels q label j d))
+
+  pub rights_stay : rights_in written ≡ rights_in sets
+  rights_stay = refl
+
+  pub public_stays : written.public ≡ sets.public
+  public_stays = refl

@@ -42,7 +42,7 @@ pub enum Right {
 
 // What a program's own posting needs to be taken back: whether one is under way, from its key to the end of its triggers; the places whose cells
 // are kept, as they were when first touched; all places that were present when it began; and of the kept cells the amounts and the labels.
-#[derive(Drop)]
+#[derive(Clone, Copy)]
 pub struct Posting {
     pub under_way: bool,
     pub touched: [u64; 8],
@@ -53,7 +53,7 @@ pub struct Posting {
 
 // All sets of a run: the places that are present, those that are public, the read sets and the write sets of the eight users, and the labels of
 // the 512 cells; of a stop about labels, the set that was tested and the set that it had to lie within; and what a posting keeps.
-#[derive(Drop)]
+#[derive(Clone, Copy)]
 pub struct Sets {
     pub present: [u64; 8],
     pub public: [u64; 8],
@@ -75,7 +75,7 @@ pub struct Run {
 }
 
 // The sixteen variables of a program or a trigger: their values and their labels.
-#[derive(Drop)]
+#[derive(Clone, Copy)]
 pub struct Variables {
     pub values: [i32; 16],
     pub labels: [[u64; 8]; 16],

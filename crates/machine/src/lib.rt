@@ -37,7 +37,9 @@ pub struct Env {
     pub who: Who,
 }
 
-// Stops the run with a number on node `n`.
+// Stops the run with a number on node `n`. That ends the run, so the compiler is told that it is rare, and lays out for speed what goes on.
+#[cold]
+#[inline(never)]
 pub fn stop(run: &mut Run, number: u32, n: usize) -> Stopped
     ensures { Stops run.old number n run.new }
 {
@@ -48,6 +50,8 @@ pub fn stop(run: &mut Run, number: u32, n: usize) -> Stopped
 
 // Stops the run with a number on node `n`, as one set does not lie within another; both are left beside the other sets.
 // They are lent, so that no caller copies them before it stops.
+#[cold]
+#[inline(never)]
 pub fn stop_outside(
     run: &mut Run,
     sets: &mut Sets,

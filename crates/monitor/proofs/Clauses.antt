@@ -5,6 +5,7 @@ use Rattle.labels.specs.Labels.{labels_by}
 use Rattle.book.specs.Start.{start_amounts, start_presence, remembered, start_labels}
 use Rattle.monitor.specs.Call.{cells_of, amounts_in, presence_in, labels_in, start_cells, start_state, run_book, answered, call}
 use Rattle.monitor.specs.Explain.{stands, reason, explanation, explained, explain_call}
+use Rattle.book.specs.Refusals.{verdict_values}
 use Rattle.book.specs.Tables.{w_file}
 use Rattle.monitor.specs.RunClauses.{RunClauses}
 use Rattle.monitor.specs.RuleClauses.{RuleClauses}
@@ -194,7 +195,7 @@ rule_clauses = record {
 }
 
 pub call_clauses : CallClauses
-unfolding called_quick w_file cells_of amounts_in presence_in labels_in start_cells start_state run_book start_amounts start_presence labels_by remembered start_labels single answered call
+unfolding called_quick w_file cells_of amounts_in presence_in labels_in start_cells start_state run_book start_amounts start_presence labels_by remembered start_labels single answered call verdict_values
 call_clauses = record {
   numbers = refl;
   cells_lent = refl;
@@ -217,6 +218,7 @@ call_clauses = record {
   lengths_refused = refl;
   budget_refused = refl;
   lent_first = (refl, refl);
+  first_numbers = refl;
   trace_after = refl;
   cells_after = (refl, refl, refl);
   finishes = refl;

@@ -3,7 +3,7 @@ use Rattle.std.specs.Prelude.{◌≡◌, List, [], ◌∷◌, ◌++◌, map, Boo
 use Rattle.book.specs.Records.{Book}
 use Rattle.book.specs.Encode.{encode}
 use Rattle.book.specs.Tables.{cell, table_region, public, may_write, constant, variable, sum, both, put, clear, out, raise, program, trigger, w_file}
-use Rattle.book.specs.Refusals.{Verdict, refusal_of}
+use Rattle.book.specs.Refusals.{Verdict, verdict_values, refusal_of}
 use Rattle.book.specs.declared.Reason.TheVariants as reasons
 use Rattle.monitor.specs.Labelled.{lit}
 use Rattle.monitor.specs.Run.{held, absent, said, changed, Out, done, stop}
@@ -140,6 +140,9 @@ pub record CallClauses : Type 0 where
   pub budget_refused : verdict_of 1000001 (lent 512 8 4096 0) ≡ refused_1
   -- 1 comes before those of the file
   pub lent_first : (Call.call_verdict [] 100 (lent 512 8 4096 0) ≡ Err (refusal_of reasons.Length 0)) × (Call.call_verdict [] 1000001 (lent 512 8 4096 0) ≡ refused_1)
+  -- both in the paper's numbers
+  pub first_numbers : map verdict_values (Call.call_verdict [] 100 (lent 512 8 4096 0) ∷ Call.call_verdict [] 1000001 (lent 512 8 4096 0) ∷ [])
+      ≡ record { number = 2; index = 0 } ∷ record { number = 1; index = 0 } ∷ []
   -- memory after a run: the cells' amounts, presence and labels, and the records before the trace's other bytes
   pub trace_after : (Call.memory_after nineteen (said 1 (pos 5) ∷ changed 2 3 1 ∷ []) sample).trace ≡ two_records ++ (4 ∷ 4 ∷ 4 ∷ [])
   pub cells_after : (drop 509 (Call.memory_after nineteen [] sample).amounts ≡ pos 509 ∷ pos 510 ∷ pos 511 ∷ [])

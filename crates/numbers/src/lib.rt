@@ -58,7 +58,7 @@ pub fn i32_at(file: &[u8], at: usize) -> i32
     requires { at + 4 ≤ length file.now }
     ensures { result ≡ signed32 (le32 file.now at) }
 {
-    u32_at(file, at).cast_signed()
+    signed(u32_at(file, at))
 }
 
 // The signed number of 32 bits, two's complement.

@@ -7,26 +7,28 @@ ghost use Rattle.book.specs.Refusals.{node_at};
 ghost use Rattle.machine.specs.Script.{script_of, Node};
 ghost use Rattle.machine.specs.Store.{vars_of, store_of, Public};
 ghost use Rattle.machine.specs.Promises.{Does, Commands};
+ghost use Rattle.machine.specs.declared.Who.{Who};
 
-use machine::{Env, Scene, Script, Stopped, Store, Variables};
+use machine::{Scene, Script, Stopped, Store, Variables};
 
-// 23: out a to user p. Stop 27 where the user may not read it, 30 where the trace is full.
+// 23: out a to user p, whoever runs it. Stop 27 where the user may not read it, 30 where the trace is full.
 pub fn out(
     script: Script,
     n: usize,
-    env: &Env,
+    ctx: &[u64; 8],
     vars: &Variables,
     store: &mut Store,
 ) -> Result<(), Stopped>
     requires public_set { Public script.bytes.now store.old.sets }
     requires node { Node command (script_of script.bytes.now) n × ((node_at (script_of script.bytes.now) n).kind ≡ 23) }
-    ensures { Does (Commands script.entry.bytes.now env.now.ctx env.now.who n)
+    ensures tells { (who : Who) → Does (Commands script.entry.bytes.now ctx.now who n)
         (vars_of vars.now) (store_of store.old) result (vars_of vars.now) (store_of store.new) }
+    ensures amounts_same { store.new.amounts ≡ store.old.amounts }
 {
     let bytes = script.bytes;
     let at = 16 * n;
     let a = numbers::u16_at(bytes, at + 2);
-    let mut label = env.ctx;
+    let mut label = *ctx;
     let scene = Scene {
         script,
         vars,

@@ -1,17 +1,17 @@
 // The write of one cell, with its tests.
 #![tactic(auto)]
 
-ghost use Rattle.std.specs.Prelude.{◌≡◌, cond, true, ◌&&◌, ◌<◌, eqb, pos};
+ghost use Rattle.std.specs.Prelude.{◌≡◌, List, cond, true, ◌&&◌, ℕ, ◌≤◌, ◌<◌, eqb, pos, length};
 ghost use Rattle.std.specs.Int.Signed.{le_z};
 ghost use Rattle.std.specs.Int.Bits.{bit_or, bit_and, bit_xor};
 ghost use Rattle.places.specs.Sets.{union};
 ghost use Rattle.monitor.specs.Run.{update};
 ghost use Rattle.monitor.specs.Labelled.{Label};
 ghost use Rattle.monitor.specs.Rules.{key_place, in_table};
-ghost use Rattle.machine.specs.Store.{cells_held, undo_of, rights_in, store_of, cell};
-ghost use Rattle.machine.specs.Writes.{event_number, key_of, key_in, cell_in, Posts};
+ghost use Rattle.machine.specs.Store.{cells_held, undo_of, rights_in, store, cell};
+ghost use Rattle.machine.specs.Writes.{key_of, key_in, Posts};
 
-use machine::{Entry, Env, Event, Sets, Stopped, Store};
+use machine::{Entry, Env, Run, Sets, Stopped};
 
 // Whether an owner or a line is from 0 to 7.
 fn is_digit(number: i32) -> bool
@@ -36,14 +36,13 @@ fn place_of(table: usize, owner: i32, line: i32) -> usize
     64 * table + 8 * (owner as usize) + (line as usize)
 }
 
-// A presence word in which a bit is set by put or taken out by clear.
-#[tactic(auto, unfolding(machine::specs::Writes::event_number))]
-fn marked(event: Event, word: u64, bit: u64) -> u64
-    ensures { result ≡ cond (eqb (event_number event) 1) (bit_or word bit) (bit_xor word (bit_and word bit)) }
+// A presence word in which a bit is set by put (event 1) or taken out by clear.
+fn marked(event: u8, word: u64, bit: u64) -> u64
+    ensures { result ≡ cond (eqb event 1) (bit_or word bit) (bit_xor word (bit_and word bit)) }
 {
     match event {
-        Event::Put => word | bit,
-        Event::Clear => word ^ (word & bit),
+        1 => word | bit,
+        _ => word ^ (word & bit),
     }
 }
 
@@ -52,13 +51,13 @@ fn store_cell(
     amounts: &mut [i32; 512],
     sets: &mut Sets,
     place: usize,
-    event: Event,
+    event: u8,
     amount: i32,
     label: &[u64; 8],
 )
     requires { place < 512 }
     ensures sets_after { cells_held amounts.new sets.new
-        ≡ update (cells_held amounts.old sets.old) place (record { val = cell (event_number event) amount; lab = label.now }) }
+        ≡ update (cells_held amounts.old sets.old) place (record { val = cell event amount; lab = label.now }) }
     ensures sets_unchanged { (rights_in sets.new ≡ rights_in sets.old)
         × (sets.new.public ≡ sets.old.public)
         × (undo_of amounts.new sets.new ≡ undo_of amounts.old sets.old) }
@@ -71,42 +70,38 @@ fn store_cell(
     sets.labels[place] = *label;
 }
 
-// The write of a cell by put or clear, up to the triggers: tests 23, 24 and 26 come before it.
-// The context of `env` has the key's label too, and `label` is that with the amount's.
+// The write of a cell by put (event 1) or clear (event 2), up to the triggers: tests 23, 24 and 26 come before it. The context of `env` has the
+// key's label too, and `label` is that with the amount's. No trace is lent: what is promised holds for any.
 pub fn post(
     n: usize,
     env: &Env,
     table: usize,
-    event: Event,
+    event: u8,
     entry: Entry,
     label: &[u64; 8],
-    store: &mut Store,
+    amounts: &mut [i32; 512],
+    sets: &mut Sets,
+    run: &mut Run,
 ) -> Result<usize, Stopped>
     requires { (env.now.who.user < 8) × (table < 8) }
     ensures posts { (own : Label) → label.now ≡ union env.now.ctx own
-        → Posts n env.now.ctx env.now.who.user table (key_in entry) (cell_in event entry own)
-        (store_of store.old) result (store_of store.new) }
-    ensures trace_same { (store.new.run.used ≡ store.old.run.used) × (store.new.trace.now ≡ store.old.trace.now) }
+        → (trace : List ℕ) (loan : ℕ) → run.old.used ≤ length trace
+        → Posts n env.now.ctx env.now.who.user table (key_in entry) (record { val = cell event entry.amount; lab = own })
+        (store amounts.old sets.old run.old trace loan) result (store amounts.new sets.new run.new trace loan) }
+    ensures used_same { run.new.used ≡ run.old.used }
 {
     if !is_key(entry.owner, entry.line) {
-        return Err(machine::stop(&mut store.run, 23, n));
+        return Err(machine::stop(run, 23, n));
     }
     let place = place_of(table, entry.owner, entry.line);
-    if !places::contains(store.sets.write[env.who.user], place) {
-        return Err(machine::stop(&mut store.run, 24, n));
+    if !places::contains(sets.write[env.who.user], place) {
+        return Err(machine::stop(run, 24, n));
     }
-    let compared = places::within(env.ctx, store.sets.labels[place]);
+    let compared = places::within(env.ctx, sets.labels[place]);
     if !compared.inside {
-        let old = store.sets.labels[place];
-        return Err(machine::stop_outside(&mut store.run, &mut store.sets, 26, n, &env.ctx, &old));
+        let old = sets.labels[place];
+        return Err(machine::stop_outside(run, sets, 26, n, &env.ctx, &old));
     }
-    store_cell(
-        &mut store.amounts,
-        &mut store.sets,
-        place,
-        event,
-        entry.amount,
-        label,
-    );
+    store_cell(amounts, sets, place, event, entry.amount, label);
     Ok(place)
 }

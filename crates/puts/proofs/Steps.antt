@@ -5,7 +5,7 @@ use Prim.Native.Nat.{ℕ, ◌+◌, ◌≤◌, ◌<◌}
 use mathlib.Core.Bool.{true}
 use native.Mathlib.Omega.{arith}
 use lib.IntN.{ℤ, pos}
-use lib.ListN.{length}
+use lib.ListN.{length, replicate, length-replicate}
 use Rattle.std.specs.Prelude.{Result, Ok, Err}
 use Rattle.places.specs.Sets.{union}
 use Rattle.places.proofs.Sets.{union_assoc}
@@ -17,17 +17,18 @@ use Rattle.monitor.specs.Labelled.{Label, bottom, Lab, lit, lift, lift2}
 use Rattle.monitor.specs.Run.{Cell, M, next, ◌>>=◌, ◌>>◌, undoing}
 use Rattle.monitor.specs.Rules.{Key, key, key_place, posting, within_label, trigger_run, fire, write_cell, monitored, command, exec}
 use Rattle.machine.specs.Script.{script_of, Sound}
-use Rattle.machine.specs.Store.{cells_held, Store, cell}
-use Rattle.machine.specs.Promises.{Value, Outcome, stopped, Gives, Evaluates, Does, env, Stands}
+use Rattle.machine.specs.Store.{cells_held, Store, store, cell}
+use Rattle.machine.specs.Promises.{Value, Outcome, stopped, Gives, Evaluates, Leaves, Does, env, Stands}
 use Rattle.machine.specs.Writes.{event_number, key_of, Posted, posted_end, Posts, key_in, cell_in, Fires}
 use Rattle.machine.specs.declared.Stopped.{Stopped}
 use Rattle.machine.specs.declared.Who.{Who}
 use Rattle.machine.specs.declared.lent.Run.{Run}
+use Rattle.machine.specs.declared.lent.Sets.{Sets}
 use Rattle.machine.specs.declared.lent.Event.{Event}
 use Rattle.machine.specs.declared.lent.Event.TheVariants.{Put, Clear}
 use Rattle.machine.specs.declared.lent.Entry.{Entry}
 use Rattle.machine.proofs.Nodes.{stands_is, Child, put_p, put_a, put_b, clear_p, clear_a, clear_b}
-use Rattle.machine.proofs.Runs.{with_run, after_none, does_as, then_stops, then_goes, value_stops, value_goes}
+use Rattle.machine.proofs.Runs.{after_none, does_as, then_stops, then_goes, value_stops, value_goes}
 use Rattle.puts.specs.declared.Written.{Written}
 use Rattle.puts.specs.Writing.{NewAmount, Writes}
 
@@ -90,13 +91,18 @@ post_event code ctx who n Clear kind fuel =
 -- ---- the ways
 
 module _ (code : List ℕ) (ctx : Label) (who : Who) (n : ℕ) (event : Event) (kind : (node_at (script_of code) n).kind ≡ 20 + event_number event)
-    (vars : ℕ → Lab ℤ) (x : Store) (u : x.run.used ≤ length x.trace) where
-  abbrev Writing : Result Written Stopped → Store → Label → Label → Type 0
-  Writing r x' inner label = Writes code ctx who n event vars x r x' inner label
+    (vars : ℕ → Lab ℤ) (cells : List ℤ) (sets : Sets) (run : Run) where
+  abbrev Writing : Result Written Stopped → List ℤ → Sets → Run → Label → Label → Type 0
+  Writing r cells' sets' run' inner label = Writes code ctx who n event vars cells sets run r cells' sets' run' inner label
+
+  -- before the write, only the numbers of the run change
+  abbrev before : Run → List ℕ → ℕ → Store
+  before run' trace loan = store cells sets run' trace loan
 
   -- the key or the amount has no value
-  lacks : {run' : Run} {inner label : Label} → run'.left ≤ x.run.left → run'.used ≡ x.run.used
-      → Does (Stands code ctx who n) vars x (Err stopped) vars (with_run x run') → Writing (Err stopped) (with_run x run') inner label
+  lacks : {run' : Run} {inner label : Label} → run'.left ≤ run.left → run'.used ≡ run.used
+      → ((trace : List ℕ) (loan : ℕ) → run.used ≤ length trace → Does (Stands code ctx who n) vars (before run trace loan) (Err stopped) vars (before run' trace loan))
+      → Writing (Err stopped) cells sets run' inner label
   lacks w e d = record {
     own = bottom;
     stops = λ _. d;
@@ -105,7 +111,6 @@ module _ (code : List ℕ) (ctx : Label) (who : Who) (n : ℕ) (event : Event) (
     inside = λ y q. absurd (none q);
     within = w;
     used_same = e;
-    trace_same = refl;
     public_same = refl;
     undo_same = refl;
   }
@@ -113,43 +118,44 @@ module _ (code : List ℕ) (ctx : Label) (who : Who) (n : ℕ) (event : Event) (
       none : {y : Written} → ◌≡◌ {A = Result Written Stopped} (Err stopped) (Ok y) → ⊥
       none q = let z : ◌≡◌ {A = ℕ} 0 1 = cc in omega arith
 
-  module _ {v₁ : Value} {run₁ : Run} {l₁ : Label} (d₁ : Gives (Evaluates code (node_at (script_of code) n).a) (cells_held x.amounts x.sets) vars x.run ctx v₁ run₁ l₁) where
-    pub owner_stops : {label : Label} → v₁ ≡ Err stopped → Writing (Err stopped) (with_run x run₁) l₁ label
+  module _ {v₁ : Value} {run₁ : Run} {l₁ : Label} (d₁ : Gives (Evaluates code (node_at (script_of code) n).a) (cells_held cells sets) vars run ctx v₁ run₁ l₁) where
+    pub owner_stops : {label : Label} → v₁ ≡ Err stopped → Writing (Err stopped) cells sets run₁ l₁ label
     owner_stops e = lacks d₁.within d₁.used_same
-        (does_as (post_event code ctx who n event kind) (value_stops d₁ (lines code ctx who n event) e u))
+        (λ trace loan u. does_as (post_event code ctx who n event kind) (value_stops d₁ (lines code ctx who n event) e u))
 
     module _ {owner : ℤ} (e₁ : v₁ ≡ Ok owner) {v₂ : Value} {run₂ : Run} {l₂ : Label}
-        (d₂ : Gives (Evaluates code (node_at (script_of code) n).b) (cells_held x.amounts x.sets) vars run₁ l₁ v₂ run₂ l₂) where
+        (d₂ : Gives (Evaluates code (node_at (script_of code) n).b) (cells_held cells sets) vars run₁ l₁ v₂ run₂ l₂) where
       abbrev key_owner : Lab ℤ
       key_owner = labelled owner d₁.label
 
-      to_line : {r : Outcome} {x' : Store}
-          → Does (λ fuel. lines code ctx who n event fuel key_owner) vars (with_run x run₁) r vars x' → Does (Stands code ctx who n) vars x r vars x'
-      to_line w = does_as (post_event code ctx who n event kind) (value_goes d₁ (lines code ctx who n event) owner e₁ w)
+      to_line : (trace : List ℕ) (loan : ℕ) {r : Outcome} {x' : Store}
+          → Does (λ fuel. lines code ctx who n event fuel key_owner) vars (before run₁ trace loan) r vars x'
+          → Does (Stands code ctx who n) vars (before run trace loan) r vars x'
+      to_line trace loan w = does_as (post_event code ctx who n event kind) (value_goes d₁ (lines code ctx who n event) owner e₁ w)
 
-      pub line_stops : {label : Label} → v₂ ≡ Err stopped → Writing (Err stopped) (with_run x run₂) l₂ label
+      pub line_stops : {label : Label} → v₂ ≡ Err stopped → Writing (Err stopped) cells sets run₂ l₂ label
       unfolding lines
       line_stops e = lacks (omega (arith, d₁.within, d₂.within)) (d₂.used_same ∙ d₁.used_same)
-          (to_line (value_stops d₂ (λ fuel. amounts code ctx who n event fuel key_owner) e (omega (arith, d₁.used_same, u))))
+          (λ trace loan u. to_line trace loan (value_stops d₂ (λ fuel. amounts code ctx who n event fuel key_owner) e (omega (arith, d₁.used_same, u))))
 
       module _ {line : ℤ} (e₂ : v₂ ≡ Ok line) {v₃ : Value} {run₃ : Run} {l₃ : Label}
-          (d₃ : Gives (NewAmount code n event) (cells_held x.amounts x.sets) vars run₂ l₂ v₃ run₃ l₃) where
+          (d₃ : Gives (NewAmount code n event) (cells_held cells sets) vars run₂ l₂ v₃ run₃ l₃) where
         abbrev key_line : Lab ℤ
         key_line = labelled line d₂.label
 
-        to_amount : {r : Outcome} {x' : Store}
-            → Does (λ fuel. amounts code ctx who n event fuel key_owner key_line) vars (with_run x run₂) r vars x'
-            → Does (Stands code ctx who n) vars x r vars x'
+        to_amount : (trace : List ℕ) (loan : ℕ) {r : Outcome} {x' : Store}
+            → Does (λ fuel. amounts code ctx who n event fuel key_owner key_line) vars (before run₂ trace loan) r vars x'
+            → Does (Stands code ctx who n) vars (before run trace loan) r vars x'
         unfolding lines
-        to_amount w = to_line (value_goes d₂ (λ fuel. amounts code ctx who n event fuel key_owner) line e₂ w)
+        to_amount trace loan w = to_line trace loan (value_goes d₂ (λ fuel. amounts code ctx who n event fuel key_owner) line e₂ w)
 
-        used_is : run₃.used ≡ x.run.used
+        used_is : run₃.used ≡ run.used
         used_is = d₃.used_same ∙ d₂.used_same ∙ d₁.used_same
 
-        pub amount_stops : v₃ ≡ Err stopped → Writing (Err stopped) (with_run x run₃) l₂ l₃
+        pub amount_stops : v₃ ≡ Err stopped → Writing (Err stopped) cells sets run₃ l₂ l₃
         unfolding amounts
         amount_stops e = lacks (omega (arith, d₁.within, d₂.within, d₃.within)) used_is
-            (to_amount (value_stops d₃ (λ fuel. writes code ctx who n event fuel key_owner key_line) e (omega (arith, d₁.used_same, d₂.used_same, u))))
+            (λ trace loan u. to_amount trace loan (value_stops d₃ (λ fuel. writes code ctx who n event fuel key_owner key_line) e (omega (arith, d₁.used_same, d₂.used_same, u))))
 
         -- the entry as it is made of the three
         module _ {amount : ℤ} (e₃ : v₃ ≡ Ok amount) {table : ℕ} (ep : table ≡ (node_at (script_of code) n).p)
@@ -172,53 +178,66 @@ module _ (code : List ℕ) (ctx : Label) (who : Who) (n : ℕ) (event : Event) (
               posting true n (sym inner_is i) who.user (sym ep i) (sym ek i) c
               >> Fires code (sym inner_is i) who.above (event_number event) (key_place (sym ep i) (sym ek i)) (sym ek i) c fuel
 
-          to_write : {r : Outcome} {x' : Store}
-              → Does (λ fuel. posting true n l₂ who.user table k z >> Fires code l₂ who.above (event_number event) (key_place table k) k z fuel) vars (with_run x run₃) r vars x'
-              → Does (Stands code ctx who n) vars x r vars x'
+          to_write : (trace : List ℕ) (loan : ℕ) {r : Outcome} {x' : Store}
+              → Does (λ fuel. posting true n l₂ who.user table k z >> Fires code l₂ who.above (event_number event) (key_place table k) k z fuel) vars (before run₃ trace loan) r vars x'
+              → Does (Stands code ctx who n) vars (before run trace loan) r vars x'
           unfolding amounts
-          to_write w = to_amount (value_goes d₃ (λ fuel. writes code ctx who n event fuel key_owner key_line) amount e₃ (does_as posts_then w))
+          to_write trace loan w = to_amount trace loan (value_goes d₃ (λ fuel. writes code ctx who n event fuel key_owner key_line) amount e₃ (does_as posts_then w))
 
-          module _ {r : Posted} {x' : Store} (p : (own : Label) → l₃ ≡ union l₂ own → Posts n l₂ who.user table k (cell_in event entry own) (with_run x run₃) r x')
-              (quiet : (x'.run.used ≡ run₃.used) × (x'.trace ≡ x.trace)) where
-            abbrev q : Posts n l₂ who.user table k z (with_run x run₃) r x'
-            q = p d₃.label (d₃.joined e₃)
+          -- the write, by the event's number as the code has it
+          module _ {r : Posted} {cells' : List ℤ} {sets' : Sets} {run' : Run} {number : ℕ} (en : number ≡ event_number event)
+              (p : (own : Label) → l₃ ≡ union l₂ own → (trace : List ℕ) (loan : ℕ) → run₃.used ≤ length trace
+              → Posts n l₂ who.user table k (record { val = cell number entry.amount; lab = own }) (before run₃ trace loan) r (store cells' sets' run' trace loan)) where
+            q : (trace : List ℕ) (loan : ℕ) → run.used ≤ length trace → Posts n l₂ who.user table k z (before run₃ trace loan) r (store cells' sets' run' trace loan)
+            q trace loan u = rw en at (p d₃.label (d₃.joined e₃) trace loan (omega (arith, used_is, u)))
+
+            -- a trace that is full holds no more records
+            abbrev full : List ℕ
+            full = replicate run₃.used 0
+
+            written : Posts n l₂ who.user table k z (before run₃ full 0) r (store cells' sets' run' full 0)
+            written = q full 0 (omega (arith, used_is, length-replicate {A = ℕ} run₃.used 0))
+
+            abbrev left : Leaves (before run₃ full 0) (written.does vars).records (store cells' sets' run' full 0)
+            left = (written.does vars).leaves
+
+            used_same : run'.used ≡ run.used
+            used_same = omega (arith, used_is, left.used_is, left.fits, length-replicate {A = ℕ} run₃.used 0)
 
             abbrev firing : ℕ → M (Unit {0})
             firing = Fires code l₂ who.above (event_number event) (key_place table k) k z
 
             -- a test fails
-            pub write_stops : r ≡ Err stopped → Writing (Err stopped) x' l₂ l₃
+            pub write_stops : r ≡ Err stopped → Writing (Err stopped) cells' sets' run' l₂ l₃
             unfolding posted_end
             write_stops e = record {
               own = d₃.label;
-              stops = λ _. to_write (rw e at (then_stops firing (q.does vars) (rw e)));
+              stops = λ _ trace loan u. to_write trace loan (rw e at (then_stops firing ((q trace loan u).does vars) (rw e)));
               goes = λ y f. absurd (none f);
               label_is = λ y f. absurd (none f);
               inside = λ y f. absurd (none f);
-              within = omega (arith, d₁.within, d₂.within, d₃.within, (q.does vars).leaves.within);
-              used_same = quiet.0 ∙ used_is;
-              trace_same = quiet.1;
-              public_same = (q.does vars).leaves.public_same;
-              undo_same = (q.does vars).leaves.undo_same;
+              within = omega (arith, d₁.within, d₂.within, d₃.within, left.within);
+              used_same = used_same;
+              public_same = left.public_same;
+              undo_same = left.undo_same;
             }
               where
                 none : {y : Written} → ◌≡◌ {A = Result Written Stopped} (Err stopped) (Ok y) → ⊥
                 none f = let z : ◌≡◌ {A = ℕ} 0 1 = cc in omega arith
 
             -- the cell is written
-            pub write_goes : {place : ℕ} → r ≡ Ok place → Writing (Ok (record { place = place; entry = entry })) x' l₂ l₃
+            pub write_goes : {place : ℕ} → r ≡ Ok place → Writing (Ok (record { place = place; entry = entry })) cells' sets' run' l₂ l₃
             unfolding posted_end
             write_goes {place} e = record {
               own = d₃.label;
               stops = λ f. absurd (none f);
-              goes = λ y f w. to_write (then_goes (q.does vars) (rw e) (rw (q.place_is place e) at (rw (← same f) at w)));
+              goes = λ y f trace loan u w. to_write trace loan (then_goes ((q trace loan u).does vars) (rw e) (rw ((q trace loan u).place_is place e) at (rw (← same f) at w)));
               label_is = λ y f. d₃.joined e₃;
-              inside = λ y f. rw (← same f) (q.place_inside place e);
-              within = omega (arith, d₁.within, d₂.within, d₃.within, (q.does vars).leaves.within);
-              used_same = quiet.0 ∙ used_is;
-              trace_same = quiet.1;
-              public_same = (q.does vars).leaves.public_same;
-              undo_same = (q.does vars).leaves.undo_same;
+              inside = λ y f. rw (← same f) (written.place_inside place e);
+              within = omega (arith, d₁.within, d₂.within, d₃.within, left.within);
+              used_same = used_same;
+              public_same = left.public_same;
+              undo_same = left.undo_same;
             }
               where
                 none : ◌≡◌ {A = Result Written Stopped} (Ok (record { place = place; entry = entry })) (Err stopped) → ⊥

@@ -4,9 +4,8 @@
 ghost use Rattle.std.specs.Prelude.{◌≡◌};
 ghost use Rattle.book.specs.Start.{tabulate, right_set, public_set};
 ghost use Rattle.machine.specs.Script.{script_of};
-ghost use Rattle.machine.specs.Store.{right_number};
 
-use machine::{Right, Script};
+use machine::Script;
 
 // The places of all regions in the rights records of this kind for this user.
 fn right_set(script: Script, kind: u8, user: usize) -> [u64; 8]
@@ -32,11 +31,10 @@ pub fn public_set(script: Script) -> [u64; 8]
     right_set(script, 0, 0)
 }
 
-// The sets of the eight users for a right.
-pub fn right_sets(script: Script, right: Right) -> [[u64; 8]; 8]
-    ensures { result ≡ tabulate (right_set (script_of script.entry.bytes.now) (right_number right)) 8 }
+// The sets of the eight users for the rights records of this kind: 1 read, 2 write.
+pub fn right_sets(script: Script, kind: u8) -> [[u64; 8]; 8]
+    ensures { result ≡ tabulate (right_set (script_of script.entry.bytes.now) kind) 8 }
 {
-    let kind = right.number();
     let mut sets = [[0u64; 8]; 8];
     for user in 0..8 {
         let set = right_set(script, kind, user);

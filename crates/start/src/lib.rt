@@ -92,6 +92,14 @@ pub fn start_sets(file: &[u8], script: Script, present: [u64; 8], sets: &mut Set
     start_labels(file, &mut sets.labels);
     sets.present = present;
     sets.public = rights::public_set(script);
-    machine::store_users(sets, Right::Read, rights::right_sets(script, Right::Read));
-    machine::store_users(sets, Right::Write, rights::right_sets(script, Right::Write));
+    machine::store_users(
+        sets,
+        Right::Read,
+        rights::right_sets(script, Right::Read.number()),
+    );
+    machine::store_users(
+        sets,
+        Right::Write,
+        rights::right_sets(script, Right::Write.number()),
+    );
 }

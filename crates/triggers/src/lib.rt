@@ -6,10 +6,9 @@ ghost use Rattle.monitor.specs.Run.{update};
 ghost use Rattle.monitor.specs.Rules.{fitting, trigger_at};
 ghost use Rattle.machine.specs.Script.{script_of};
 ghost use Rattle.machine.specs.Store.{row_at, vars_of};
-ghost use Rattle.machine.specs.Writes.{event_number};
 ghost use Rattle.triggers.specs.Search.{first_fitting};
 
-use machine::{Entry, Event, Script, Variables};
+use machine::{Entry, Script, Variables};
 
 // A trigger that fits a write: its number, its user and its body.
 #[derive(Clone, Copy)]
@@ -20,22 +19,22 @@ pub struct Fitting {
 }
 
 // Whether trigger `t` fits the write of the cell at `place`: its event, and its region holds the place.
-fn fits(script: Script, t: usize, event: Event, place: usize) -> bool
+fn fits(script: Script, t: usize, event: u8, place: usize) -> bool
     requires { (t < length (script_of script.bytes.now).triggers) × (place < 512) }
-    ensures { result ≡ fitting (script_of script.entry.bytes.now) (event_number event) place (trigger_at (script_of script.entry.bytes.now) t) }
+    ensures { result ≡ fitting (script_of script.entry.bytes.now) event place (trigger_at (script_of script.entry.bytes.now) t) }
 {
     let bytes = script.bytes;
     let at = machine::TRIGGERS + 8 * t;
-    if bytes[at + 1] != event as u8 {
+    if bytes[at + 1] != event {
         return false;
     }
     machine::region_holds(script, numbers::byte_at(bytes, at), place)
 }
 
-// The first trigger from number `t` on that fits the write of the cell at `place`.
-pub fn next_fitting(script: Script, t: usize, event: Event, place: usize) -> Option<Fitting>
+// The first trigger from number `t` on that fits the write of the cell at `place`, by put (event 1) or clear (event 2). No other event has one.
+pub fn next_fitting(script: Script, t: usize, event: u8, place: usize) -> Option<Fitting>
     requires { place < 512 }
-    ensures { result ≡ first_fitting script.entry.bytes.now (event_number event) place (length (script_of script.entry.bytes.now).triggers - t) t }
+    ensures { result ≡ first_fitting script.entry.bytes.now event place (length (script_of script.entry.bytes.now).triggers - t) t }
 {
     let bytes = script.bytes;
     let count = numbers::u16_at(bytes, machine::TRIGGERS_COUNT);

@@ -15,9 +15,9 @@ use Rattle.places.specs.Sets.{has, empty, single, union}
 use Rattle.places.proofs.Sets.{union_word, length_union, length_single, has_union, has_single}
 use Rattle.places.proofs.Shapes.{single_word}
 use Rattle.monitor.specs.Labelled.{Label}
-use Rattle.machine.specs.Store.{row_at, cells_held, began}
+use Rattle.machine.specs.Store.{row_at, began}
 use Rattle.machine.specs.declared.lent.Sets.{Sets}
-use Rattle.machine.proofs.Stores.{row_same, row_other, undo_same}
+use Rattle.machine.proofs.Stores.{row_same, row_other, same_state, undo_same}
 use Rattle.undo.specs.Undo.{Keeps}
 
 -- one more place in a set of eight words: a store into the word that the place is in
@@ -71,11 +71,15 @@ module _ (amounts : List ℤ) (sets : Sets) (q : ℕ) (z : ℤ) (h : q < 512) (e
     };
   }
 
+  -- what is kept of another place stays
+  pub other_amount : (j : ℕ) → (j ≡ q → ⊥) → get_or kept.posting.amounts j (pos 0) ≡ get_or sets.posting.amounts j (pos 0)
+  other_amount j d = get_or-set_other sets.posting.amounts q j z (pos 0) d
+
   pub keeps : has sets.posting.touched q ≡ false → length sets.posting.amounts ≡ 512 → length sets.posting.labels ≡ 512 → z ≡ get_or amounts q (pos 0)
       → Keeps amounts sets q kept
-  unfolding began cells_held
+  unfolding began
   keeps new long_amounts long_labels amount_is = record {
-    same = record { cells_same = refl; rights_same = refl; public_same = refl };
+    same = same_state amounts sets kept refl refl refl refl (λ j. refl);
     undo_same = undo_same amounts amounts sets kept refl (λ j. at j (ℕ_discrete j q));
     touched = here;
     eight = with_place_long sets.posting.touched q h eight;
@@ -88,4 +92,4 @@ module _ (amounts : List ℤ) (sets : Sets) (q : ℕ) (z : ℤ) (h : q < 512) (e
       at j (yes e) =
           rw (e, here, new, get_or-set_same sets.posting.amounts q z (pos 0) (omega (arith, long_amounts)), amount_is, row_same sets.posting.labels q (row_at sets.labels q) (omega (arith, long_labels)))
       at j (no d) =
-          rw (has_others sets.posting.touched q h eight j d, get_or-set_other sets.posting.amounts q j z (pos 0) d, row_other sets.posting.labels q (row_at sets.labels q) j d)
+          rw (has_others sets.posting.touched q h eight j d, other_amount j d, row_other sets.posting.labels q (row_at sets.labels q) j d)

@@ -1,6 +1,6 @@
 -- `actions::act` meets its contract.
 use mathlib.Core.Path.{◌≡◌, sym, ap, ◌∙◌}
-use mathlib.Core.List.{List}
+use mathlib.Core.List.{List, []}
 use Prim.Native.Nat.{ℕ, ◌*◌}
 use native.Mathlib.Omega.{arith}
 use Rattle.book.specs.Bytes.{byte}
@@ -28,14 +28,21 @@ pub change-requires-clause-node : goal.change-requires-clause-node
 change-requires-clause-node c =
     (c.requires.node.0, ap (between 24 25) (sym (kind_is c.args.script.runnable c.requires.node.0)) ∙ change_kind (byte c.args.script.bytes.now (16 * c.args.n)) (omega arith) (omega arith))
 
+-- no more of the trace is used after an assignment or a raise than before
+pub invariant_of-store-clause-room : goal.invariant_of-store-clause-room
+invariant_of-store-clause-room c = (c.assign.ensures c.args.env.now.who c.args.store.now.trace.now 0 c.args.store.now.room).leaves.fits
+
+pub invariant_of-store-in-26-clause-room : goal.invariant_of-store-in-26-clause-room
+invariant_of-store-in-26-clause-room c = (c.raise.ensures c.args.env.now.who [] [] c.args.store.now.trace.now 0 c.args.store.now.room).leaves.fits
+
 -- a kind below 23
-pub returns-in_default : goal.returns-in_default
-returns-in_default c =
+pub returns-in_default-clause-acts : goal.returns-in_default-clause-acts
+returns-in_default-clause-acts c =
     let same = kind_is c.args.script.runnable c.requires.node.0 in
     skips _ _ _ _ (skip_kind (ap (between 18 22) same ∙ c.requires.node.1) (omega arith) (omega arith) (omega arith) (omega arith) (omega arith) _ same) c.args.store.now.room
 
 -- a kind above 26
-pub returns-in_default-2 : goal.returns-in_default-2
-returns-in_default-2 c =
+pub returns-in_default-2-clause-acts : goal.returns-in_default-2-clause-acts
+returns-in_default-2-clause-acts c =
     let same = kind_is c.args.script.runnable c.requires.node.0 in
     skips _ _ _ _ (skip_kind (ap (between 18 22) same ∙ c.requires.node.1) (omega arith) (omega arith) (omega arith) (omega arith) (omega arith) _ same) c.args.store.now.room

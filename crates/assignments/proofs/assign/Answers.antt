@@ -13,7 +13,7 @@ eval-requires c = assigned_value c.args.script.runnable c.requires c.u16_at-a.en
 -- the expression stops
 pub returns-in_default : goal.returns-in_default
 returns-in_default c =
-    assign_fails _ _ _ _ _ _ c.args.script.runnable c.args.store.now.room c.requires c.u16_at-a.ensures.0 c.eval.ensures c.in_default.is
+    λ who trace loan u. assign_fails _ _ _ who _ _ c.args.script.runnable u c.requires c.u16_at-a.ensures.0 c.eval.ensures c.in_default.is
 
 -- its variable is one of sixteen
 pub bounds-vars-p : goal.bounds-vars-p
@@ -22,7 +22,7 @@ bounds-vars-p c = assigned c.args.script.runnable c.requires c.byte_at-p.ensures
 -- 25: the context is not within the old label
 pub returns-then-not-compared : goal.returns-then-not-compared
 returns-then-not-compared c =
-    assign_keeps _ _ _ _ _ _ c.args.script.runnable c.args.store.now.room c.requires c.u16_at-a.ensures.0 c.eval.ensures c.in-Ok.is c.byte_at-p.ensures.0
+    λ who trace loan u. assign_keeps _ _ _ who _ _ c.args.script.runnable u c.requires c.u16_at-a.ensures.0 c.eval.ensures c.in-Ok.is c.byte_at-p.ensures.0
     (sym c.within-compared.ensures.0 ∙ not-true _ c.if-not-compared.true) c.stop_outside.ensures.stops c.stop_outside.ensures.compares
 
 pub bounds-vars-p-2 : goal.bounds-vars-p-2
@@ -34,6 +34,6 @@ bounds-vars-p-3 c = assigned c.args.script.runnable c.requires c.byte_at-p.ensur
 -- the variable is set
 pub returns : goal.returns
 returns c =
-    rw (to_z-of_z {w = w32} {z = c.in-Ok.amount} (record { sfits = omega arith }))
-    (assign_sets _ _ _ _ _ _ c.args.script.runnable c.args.store.now.room c.requires c.u16_at-a.ensures.0 c.eval.ensures c.in-Ok.is c.byte_at-p.ensures.0
+    λ who trace loan u. rw (to_z-of_z {w = w32} {z = c.in-Ok.amount} (record { sfits = omega arith }))
+    (assign_sets _ _ _ who _ _ c.args.script.runnable u c.requires c.u16_at-a.ensures.0 c.eval.ensures c.in-Ok.is c.byte_at-p.ensures.0
     (omega arith) (omega arith) (sym c.within-compared.ensures.0 ∙ not-false _ c.if-not-compared.false))

@@ -16,6 +16,7 @@ use Rattle.machine.specs.Promises.{Enters}
 use Rattle.machine.specs.Writes.{event_number, key_in, cell_in}
 use Rattle.machine.specs.declared.lent.Event.{Event}
 use Rattle.machine.specs.declared.lent.Entry.{Entry}
+use Rattle.machine.proofs.Events.{numbered}
 use Rattle.machine.proofs.Nodes.{read, kind_inside}
 use Rattle.machine.proofs.Runs.{then_stops, then_goes}
 use Rattle.machine.proofs.Stores.{idle_same}
@@ -135,12 +136,12 @@ enter-returns-in-22 t c =
 pub enter-returns-in-17 : goal.enter-returns-in-17
 enter-returns-in-17 t c =
     let a = c.args in
-    enters a.script.bytes.now a.n a.env.now.ctx a.env.now.who (cost_paid a.script.runnable c.requires.node c.pay.ensures c.in_ok-pay.was) c.act.ensures
+    enters a.script.bytes.now a.n a.env.now.ctx a.env.now.who (cost_paid a.script.runnable c.requires.node c.pay.ensures c.in_ok-pay.was) c.act.ensures.acts
 
 pub enter-returns-in_default : goal.enter-returns-in_default
 enter-returns-in_default t c =
     let a = c.args in
-    enters a.script.bytes.now a.n a.env.now.ctx a.env.now.who (cost_paid a.script.runnable c.requires.node c.pay.ensures c.in_ok-pay.was) c.act-in_default.ensures
+    enters a.script.bytes.now a.n a.env.now.ctx a.env.now.who (cost_paid a.script.runnable c.requires.node c.pay.ensures c.in_ok-pay.was) c.act-in_default.ensures.acts
 
 -- ---- the goals of `exec`
 
@@ -189,6 +190,11 @@ exec-loop-script-preserved t c =
 
 -- ---- the goals of `fire`
 
+-- a search for an event by another number for it
+searched : (code : List ℕ) {number number' : ℕ} (place from : ℕ) {r : Option Fitting} → number ≡ number'
+    → r ≡ first_fitting code number place (length (script_of code).triggers - from) from → r ≡ first_fitting code number' place (length (script_of code).triggers - from) from
+searched code place from e is = is ∙ ap (λ (n : ℕ). first_fitting code n place (length (script_of code).triggers - from) from) e
+
 -- the trigger that a turn runs, for any label of the amount
 trigger : {code : List ℕ} (ctx : Label) (event : Event) {place : ℕ} (entry : Entry) (own : Label) {from : ℕ} {r : Option Fitting}
     → r ≡ first_fitting code (event_number event) place (length (script_of code).triggers - from) from → {f : Fitting} → r ≡ Some f
@@ -201,18 +207,18 @@ pub fire-returns-in_default : goal.fire-returns-in_default
 fire-returns-in_default t c = λ own vars l.
     let a = c.args in
     let remains = c.loop-next.invariant in
-    remains.ends own vars l (none_left a.script.bytes.now a.env.now.ctx (event_number a.event) a.written.place _ _ c.loop-next.from remains.keeps.fits (sym c.next_fitting.ensures ∙ c.in_default.is))
+    remains.ends own vars l (none_left a.script.bytes.now a.env.now.ctx (event_number a.event) a.written.place _ _ c.loop-next.from remains.keeps.fits (sym (searched _ _ _ (numbered c.args.event) c.next_fitting.ensures) ∙ c.in_default.is))
 
 pub fire-overflow_add-from : goal.fire-overflow_add-from
 fire-overflow_add-from t c =
     let a = c.args in
-    omega (arith, (trigger a.env.now.ctx a.event a.written.entry [] c.next_fitting.ensures c.in-Some.is).below, a.script.runnable.sound.few_triggers)
+    omega (arith, (trigger a.env.now.ctx a.event a.written.entry [] (searched _ _ _ (numbered c.args.event) c.next_fitting.ensures) c.in-Some.is).below, a.script.runnable.sound.few_triggers)
 
 pub fire-exec-requires : goal.fire-exec-requires
 fire-exec-requires t c =
     let a = c.args in
     let keeps = c.loop-next.invariant.keeps in
-    let runs = found_runs a.script.bytes.now a.env.now.ctx (event_number a.event) a.written.place _ _ a.script.runnable (trigger a.env.now.ctx a.event a.written.entry [] c.next_fitting.ensures c.in-Some.is) in (
+    let runs = found_runs a.script.bytes.now a.env.now.ctx (event_number a.event) a.written.place _ _ a.script.runnable (trigger a.env.now.ctx a.event a.written.entry [] (searched _ _ _ (numbered c.args.event) c.next_fitting.ensures) c.in-Some.is) in (
       omega (arith, c.decreases, weight_kept a.script.bytes.now c.in-Some.next.body keeps),
       record {
         public_is = keeps.public_same ∙ c.requires.0;
@@ -225,7 +231,7 @@ fire-exec-requires t c =
 pub fire-loop-next-smaller : goal.fire-loop-next-smaller
 fire-loop-next-smaller t c =
     let a = c.args in
-    let this = trigger a.env.now.ctx a.event a.written.entry [] c.next_fitting.ensures c.in-Some.is in
+    let this = trigger a.env.now.ctx a.event a.written.entry [] (searched _ _ _ (numbered c.args.event) c.next_fitting.ensures) c.in-Some.is in
     omega (arith, this.from, this.below, a.script.runnable.sound.few_triggers)
 
 -- it is done: the triggers after it are next
@@ -235,8 +241,8 @@ fire-loop-next-preserved t c =
     let remains = c.loop-next.invariant in
     record {
       keeps = keeps_both remains.keeps (does_keeps c.exec.ensures);
-      ends = λ own vars l d. remains.ends own vars l (found_goes a.script.bytes.now a.env.now.ctx (event_number a.event) a.written.place _ _ (trigger a.env.now.ctx a.event a.written.entry own c.next_fitting.ensures c.in-Some.is) (omega arith)
-          (variables_are a.env.now.ctx own a.event a.written.entry l c.set_variables.ensures) c.exec.ensures c.in_ok-exec.was d);
+      ends = λ own vars l d. remains.ends own vars l (found_goes a.script.bytes.now a.env.now.ctx (event_number a.event) a.written.place _ _ (trigger a.env.now.ctx a.event a.written.entry own (searched _ _ _ (numbered c.args.event) c.next_fitting.ensures) c.in-Some.is) (omega arith)
+          (variables_are a.env.now.ctx own a.event a.written.entry l (rw c.label_all.ensures at c.set_variables.ensures)) c.exec.ensures c.in_ok-exec.was d);
     }
 
 -- it stops
@@ -244,8 +250,8 @@ pub fire-returns-in_err-exec : goal.fire-returns-in_err-exec
 fire-returns-in_err-exec t c = λ own vars l.
     let a = c.args in
     rw (err_from_is_err_and c.from_residual.result c.from_residual.ensures.1).1
-    (answers (sym c.in_err-exec.was) (c.loop-next.invariant.ends own vars l (found_stops a.script.bytes.now a.env.now.ctx (event_number a.event) a.written.place _ _ (trigger a.env.now.ctx a.event a.written.entry own c.next_fitting.ensures c.in-Some.is) (omega arith)
-    (variables_are a.env.now.ctx own a.event a.written.entry l c.set_variables.ensures) c.exec.ensures c.in_err-exec.was)))
+    (answers (sym c.in_err-exec.was) (c.loop-next.invariant.ends own vars l (found_stops a.script.bytes.now a.env.now.ctx (event_number a.event) a.written.place _ _ (trigger a.env.now.ctx a.event a.written.entry own (searched _ _ _ (numbered c.args.event) c.next_fitting.ensures) c.in-Some.is) (omega arith)
+    (variables_are a.env.now.ctx own a.event a.written.entry l (rw c.label_all.ensures at c.set_variables.ensures)) c.exec.ensures c.in_err-exec.was)))
 
 -- ---- the goals of `post`
 
@@ -353,4 +359,4 @@ pub write-returns : goal.write-returns
 write-returns t c =
     let writes = c.post.ensures.writes in
     let told = c.in_ok-written.was in
-    writes.goes _ told (rw c.post.ensures.who_same at (c.fire.ensures writes.own (vars_of c.args.vars.now) (writes.label_is _ told)))
+    writes.goes _ told _ _ c.args.store.now.room (rw c.post.ensures.who_same at (c.fire.ensures writes.own (vars_of c.args.vars.now) (writes.label_is _ told)))

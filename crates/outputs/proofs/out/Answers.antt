@@ -14,9 +14,9 @@ pub eval-requires : goal.eval-requires
 eval-requires c = told_value _ _ c.args.script.runnable c.requires.node c.u16_at-a.ensures.0
 
 -- the expression stops
-pub returns-in_default : goal.returns-in_default
-returns-in_default c =
-    out_fails _ _ _ _ _ _ c.args.script.runnable c.args.store.now.room c.requires.public_set c.requires.node c.u16_at-a.ensures.0 c.eval.ensures c.in_default.is
+pub returns-in_default-clause-tells : goal.returns-in_default-clause-tells
+returns-in_default-clause-tells c =
+    λ who. out_fails _ _ _ who _ _ c.args.script.runnable c.args.store.now.room c.requires.public_set c.requires.node c.u16_at-a.ensures.0 c.eval.ensures c.in_default.is
 
 pub bounds-store-user : goal.bounds-store-user
 bounds-store-user c =
@@ -24,21 +24,21 @@ bounds-store-user c =
     rw (c.byte_at-user.ensures.0 ∙ (read_at _ runs _ c.requires.node.0.inside).p) (out_p _ runs.sound _ c.requires.node.0.inside c.requires.node.1)
 
 -- 27: the user may not read the value
-pub returns-then-not-compared : goal.returns-then-not-compared
-returns-then-not-compared c =
-    out_hidden _ _ _ _ _ _ c.args.script.runnable c.args.store.now.room c.requires.public_set c.requires.node c.u16_at-a.ensures.0 c.eval.ensures c.in-Ok.is c.byte_at-user.ensures.0
+pub returns-then-not-compared-clause-tells : goal.returns-then-not-compared-clause-tells
+returns-then-not-compared-clause-tells c =
+    λ who. out_hidden _ _ _ who _ _ c.args.script.runnable c.args.store.now.room c.requires.public_set c.requires.node c.u16_at-a.ensures.0 c.eval.ensures c.in-Ok.is c.byte_at-user.ensures.0
     (sym (c.within-compared.ensures.0 ∙ ap (within _) c.union-readable.ensures) ∙ not-true _ c.if-not-compared.true) c.stop_outside.ensures.stops
     (rw (← c.union-readable.ensures) c.stop_outside.ensures.compares)
 
 -- 30: the trace is full
-pub returns-then-store-used : goal.returns-then-store-used
-returns-then-store-used c =
-    out_full _ _ _ _ _ _ c.args.script.runnable c.args.store.now.room c.requires.public_set c.requires.node c.u16_at-a.ensures.0 c.eval.ensures c.in-Ok.is c.byte_at-user.ensures.0
+pub returns-then-store-used-clause-tells : goal.returns-then-store-used-clause-tells
+returns-then-store-used-clause-tells c =
+    λ who. out_full _ _ _ who _ _ c.args.script.runnable c.args.store.now.room c.requires.public_set c.requires.node c.u16_at-a.ensures.0 c.eval.ensures c.in-Ok.is c.byte_at-user.ensures.0
     (sym (c.within-compared.ensures.0 ∙ ap (within _) c.union-readable.ensures) ∙ not-false _ c.if-not-compared.false) c.if-store-used.true c.stop.ensures
 
 -- the record is written
-pub returns : goal.returns
-returns c =
-    out_tells _ _ _ _ _ _ c.args.script.runnable c.args.store.now.room c.requires.public_set c.requires.node c.u16_at-a.ensures.0 c.eval.ensures c.in-Ok.is c.byte_at-user.ensures.0
+pub returns-clause-tells : goal.returns-clause-tells
+returns-clause-tells c =
+    λ who. out_tells _ _ _ who _ _ c.args.script.runnable c.args.store.now.room c.requires.public_set c.requires.node c.u16_at-a.ensures.0 c.eval.ensures c.in-Ok.is c.byte_at-user.ensures.0
     (sym (c.within-compared.ensures.0 ∙ ap (within _) c.union-readable.ensures) ∙ not-false _ c.if-not-compared.false) c.if-store-used.false c.put_record.ensures
     (c.bits_of-bits.ensures ∙ ap bits32 (to_z-of_z {w = w32} {z = c.in-Ok.amount} (record { sfits = omega arith })))

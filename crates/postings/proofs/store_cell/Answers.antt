@@ -6,7 +6,6 @@ use mir.Facts.{to_z-of_z}
 use Rattle.monitor.specs.Labelled.{Lab}
 use Rattle.monitor.specs.Run.{Cell, update}
 use Rattle.machine.specs.Store.{cell}
-use Rattle.machine.specs.Writes.{event_number}
 use Rattle.machine.specs.declared.lent.Sets.{Sets}
 use Rattle.machine.proofs.Stores.{cell_stored}
 use Rattle.undo.proofs.Undo.{undo_written}
@@ -17,7 +16,7 @@ returns c =
     let a = c.args in
     let sets : Sets = c.keep.new.sets in
     let keeps = c.keep.ensures in
-    let event : ℕ = event_number a.event in
+    let event : ℕ = a.event in
     rw (to_z-of_z c.ranges.amount, c.marked.ensures, c.single-one.ensures) record {
       sets_after = cell_stored sets a.place event a.label.now c.requires (omega arith) (omega arith) a.amounts.now a.amount c.told-amounts
           ∙ ap (λ (cells : ℕ → Lab Cell). update cells a.place (record { val = cell event a.amount; lab = a.label.now })) keeps.same.cells_same;

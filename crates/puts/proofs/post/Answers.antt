@@ -6,8 +6,8 @@ use mir.Val.{to_z, of_z}
 use borrow.Author.Rules.{rules}
 use Rattle.std.proofs.lemmas.Result.{err_from_is_err_and}
 use Rattle.machine.specs.Script.{script_of}
-use Rattle.machine.specs.Store.{store_of}
 use Rattle.machine.specs.Writes.{key_of}
+use Rattle.machine.proofs.Events.{numbered}
 use Rattle.machine.proofs.Nodes.{read}
 use Rattle.puts.proofs.Steps.{post_fields, named, owner_stops, line_stops, amount_stops, write_stops, write_goes}
 use Rattle.puts.proofs.post.Goals as goal
@@ -23,7 +23,7 @@ returns-in_default-clause-writes c =
     let a = c.args in
     let script = a.script in
     let r = read script.runnable c.requires.0 in
-    owner_stops script.bytes.now a.env.now.ctx a.env.now.who a.n a.event c.requires.1 _ (store_of a.store.now) a.store.now.room
+    owner_stops script.bytes.now a.env.now.ctx a.env.now.who a.n a.event c.requires.1 _ a.amounts.now a.sets.now a.run.now
     (named script.bytes.now (c.u16_at-a.ensures.0 ∙ r.a) c.eval.ensures) c.in_default.is
 
 pub eval-requires-2 : goal.eval-requires-2
@@ -37,7 +37,7 @@ returns-in_default-eval-clause-writes c =
     let a = c.args in
     let script = a.script in
     let r = read script.runnable c.requires.0 in
-    line_stops script.bytes.now a.env.now.ctx a.env.now.who a.n a.event c.requires.1 _ (store_of a.store.now) a.store.now.room
+    line_stops script.bytes.now a.env.now.ctx a.env.now.who a.n a.event c.requires.1 _ a.amounts.now a.sets.now a.run.now
     (named script.bytes.now (c.u16_at-a.ensures.0 ∙ r.a) c.eval.ensures) c.in-Ok.is
     (named script.bytes.now (c.u16_at-b.ensures.0 ∙ r.b) c.eval-2.ensures) c.in_default-eval.is
 
@@ -46,7 +46,7 @@ returns-in_default-new_amount-clause-writes c =
     let a = c.args in
     let script = a.script in
     let r = read script.runnable c.requires.0 in
-    amount_stops script.bytes.now a.env.now.ctx a.env.now.who a.n a.event c.requires.1 _ (store_of a.store.now) a.store.now.room
+    amount_stops script.bytes.now a.env.now.ctx a.env.now.who a.n a.event c.requires.1 _ a.amounts.now a.sets.now a.run.now
     (named script.bytes.now (c.u16_at-a.ensures.0 ∙ r.a) c.eval.ensures) c.in-Ok.is
     (named script.bytes.now (c.u16_at-b.ensures.0 ∙ r.b) c.eval-2.ensures) c.in-Ok-eval.is c.new_amount.ensures c.in_default-new_amount.is
 
@@ -65,10 +65,10 @@ returns-in_err-place-clause-writes c =
     let line : to_z w32 (of_z w32 c.in-Ok-eval.line) ≡ c.in-Ok-eval.line = search rules in
     let amount : to_z w32 (of_z w32 c.in-Ok-new_amount.amount) ≡ c.in-Ok-new_amount.amount = search rules in
     rw (err_from_is_err_and c.from_residual.result c.from_residual.ensures.1).1
-    (write_stops script.bytes.now a.env.now.ctx a.env.now.who a.n a.event c.requires.1 _ (store_of a.store.now) a.store.now.room
+    (write_stops script.bytes.now a.env.now.ctx a.env.now.who a.n a.event c.requires.1 _ a.amounts.now a.sets.now a.run.now
     (named script.bytes.now (c.u16_at-a.ensures.0 ∙ r.a) c.eval.ensures) c.in-Ok.is
     (named script.bytes.now (c.u16_at-b.ensures.0 ∙ r.b) c.eval-2.ensures) c.in-Ok-eval.is c.new_amount.ensures c.in-Ok-new_amount.is (c.byte_at-table.ensures.0 ∙ r.p) _
-    (λ i. key_of (owner i) (line i)) amount c.post.ensures.posts c.post.ensures.trace_same c.in_err-place.was)
+    (λ i. key_of (owner i) (line i)) amount (numbered a.event) c.post.ensures.posts c.in_err-place.was)
 
 pub returns-clause-writes : goal.returns-clause-writes
 returns-clause-writes c =
@@ -78,7 +78,7 @@ returns-clause-writes c =
     let owner : to_z w32 (of_z w32 c.in-Ok.owner) ≡ c.in-Ok.owner = search rules in
     let line : to_z w32 (of_z w32 c.in-Ok-eval.line) ≡ c.in-Ok-eval.line = search rules in
     let amount : to_z w32 (of_z w32 c.in-Ok-new_amount.amount) ≡ c.in-Ok-new_amount.amount = search rules in
-    write_goes script.bytes.now a.env.now.ctx a.env.now.who a.n a.event c.requires.1 _ (store_of a.store.now) a.store.now.room
+    write_goes script.bytes.now a.env.now.ctx a.env.now.who a.n a.event c.requires.1 _ a.amounts.now a.sets.now a.run.now
     (named script.bytes.now (c.u16_at-a.ensures.0 ∙ r.a) c.eval.ensures) c.in-Ok.is
     (named script.bytes.now (c.u16_at-b.ensures.0 ∙ r.b) c.eval-2.ensures) c.in-Ok-eval.is c.new_amount.ensures c.in-Ok-new_amount.is (c.byte_at-table.ensures.0 ∙ r.p) _
-    (λ i. key_of (owner i) (line i)) amount c.post.ensures.posts c.post.ensures.trace_same c.in_ok-place.was
+    (λ i. key_of (owner i) (line i)) amount (numbered a.event) c.post.ensures.posts c.in_ok-place.was

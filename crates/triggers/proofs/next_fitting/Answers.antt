@@ -6,7 +6,6 @@ use native.Mathlib.Omega.{arith}
 use lib.ListN.{length}
 use Rattle.monitor.specs.Rules.{trigger_at}
 use Rattle.machine.specs.Script.{triggers_start, held_count, script_of, Runnable}
-use Rattle.machine.specs.Writes.{event_number}
 use Rattle.machine.proofs.Scripts.{TriggerRead, trigger_read_at, triggers_count}
 use Rattle.triggers.proofs.Search.{first_none, first_passes, first_fits}
 use Rattle.triggers.proofs.next_fitting.Goals as goal
@@ -32,15 +31,15 @@ pub returns-then-fits : goal.returns-then-fits
 returns-then-fits c =
     let x = read _ c.u16_at-count.ensures.0 c.loop-number-test.true c.args.script.runnable in
     sym (c.loop-number.invariant
-    ∙ first_fits c.args.script.bytes.now (event_number c.args.event) c.args.place c.loop-number.number (inside c.args.script.bytes.now c.u16_at-count.ensures.0 c.loop-number-test.true) c.fits.ensures c.if-fits.true
+    ∙ first_fits c.args.script.bytes.now c.args.event c.args.place c.loop-number.number (inside c.args.script.bytes.now c.u16_at-count.ensures.0 c.loop-number-test.true) c.fits.ensures c.if-fits.true
     (c.byte_at-user.ensures.0 ∙ x.user) (c.u16_at-body.ensures.0 ∙ x.body))
 
 pub loop-number-preserved : goal.loop-number-preserved
 loop-number-preserved c =
     c.loop-number.invariant
-    ∙ first_passes c.args.script.bytes.now (event_number c.args.event) c.args.place c.loop-number.number (inside c.args.script.bytes.now c.u16_at-count.ensures.0 c.loop-number-test.true) c.fits.ensures c.if-fits.false
+    ∙ first_passes c.args.script.bytes.now c.args.event c.args.place c.loop-number.number (inside c.args.script.bytes.now c.u16_at-count.ensures.0 c.loop-number-test.true) c.fits.ensures c.if-fits.false
 
 pub returns : goal.returns
 returns c =
     sym (c.loop-number.invariant
-    ∙ first_none c.args.script.bytes.now (event_number c.args.event) c.args.place c.loop-number.number (omega (arith, triggers_count c.args.script.bytes.now, c.u16_at-count.ensures.0)))
+    ∙ first_none c.args.script.bytes.now c.args.event c.args.place c.loop-number.number (omega (arith, triggers_count c.args.script.bytes.now, c.u16_at-count.ensures.0)))

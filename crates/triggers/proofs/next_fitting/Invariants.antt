@@ -3,10 +3,9 @@ use mathlib.Core.Path.{◌≡◌}
 use Prim.Native.Nat.{◌-◌}
 use lib.ListN.{length}
 use Rattle.machine.specs.Script.{script_of}
-use Rattle.machine.specs.Writes.{event_number}
 use Rattle.triggers.specs.Search.{first_fitting}
 use Rattle.triggers.proofs.next_fitting.Given as goal
 
 abbrev pub invariant-loop-number : goal.invariant-loop-number
 invariant-loop-number l =
-    first_fitting l.script.bytes.now (event_number l.event) l.place (length (script_of l.script.bytes.now).triggers - l.t) l.t ≡ first_fitting l.script.bytes.now (event_number l.event) l.place (length (script_of l.script.bytes.now).triggers - l.number) l.number
+    first_fitting l.script.bytes.now l.event l.place (length (script_of l.script.bytes.now).triggers - l.t) l.t ≡ first_fitting l.script.bytes.now l.event l.place (length (script_of l.script.bytes.now).triggers - l.number) l.number

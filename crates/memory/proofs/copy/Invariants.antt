@@ -1,0 +1,6 @@
+-- `memory::copy` has no loop, and needs nothing here. The edits in must-fail/ copy by a loop, and write in place of the four lines below what
+-- it keeps: so what they store is refused, and the same loop with the right store is proved.
+-- the words taken from std
+-- the function's types
+-- the type of what the loop keeps
+-- what the loop keeps
