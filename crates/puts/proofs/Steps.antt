@@ -5,7 +5,7 @@ use Prim.Native.Nat.{ℕ, ◌+◌, ◌≤◌, ◌<◌}
 use mathlib.Core.Bool.{true}
 use native.Mathlib.Omega.{arith}
 use lib.IntN.{ℤ, pos}
-use lib.ListN.{length, replicate, length-replicate}
+use lib.ListN.{length}
 use Rattle.std.specs.Prelude.{Result, Ok, Err}
 use Rattle.places.specs.Sets.{union}
 use Rattle.places.proofs.Sets.{union_assoc}
@@ -29,6 +29,7 @@ use Rattle.machine.specs.declared.lent.Event.TheVariants.{Put, Clear}
 use Rattle.machine.specs.declared.lent.Entry.{Entry}
 use Rattle.machine.proofs.Nodes.{stands_is, Child, put_p, put_a, put_b, clear_p, clear_a, clear_b}
 use Rattle.machine.proofs.Runs.{after_none, does_as, then_stops, then_goes, value_stops, value_goes}
+use Rattle.postings.proofs.Traces.{on_any, write_uses_none}
 use Rattle.puts.specs.declared.Written.{Written}
 use Rattle.puts.specs.Writing.{NewAmount, Writes}
 
@@ -152,7 +153,7 @@ module _ (code : List ℕ) (ctx : Label) (who : Who) (n : ℕ) (event : Event) (
         used_is : run₃.used ≡ run.used
         used_is = d₃.used_same ∙ d₂.used_same ∙ d₁.used_same
 
-        pub amount_stops : v₃ ≡ Err stopped → Writing (Err stopped) cells sets run₃ l₂ l₃
+        pub amount_stops : {inner label : Label} → v₃ ≡ Err stopped → Writing (Err stopped) cells sets run₃ inner label
         unfolding amounts
         amount_stops e = lacks (omega (arith, d₁.within, d₂.within, d₃.within)) used_is
             (λ trace loan u. to_amount trace loan (value_stops d₃ (λ fuel. writes code ctx who n event fuel key_owner key_line) e (omega (arith, d₁.used_same, d₂.used_same, u))))
@@ -184,31 +185,27 @@ module _ (code : List ℕ) (ctx : Label) (who : Who) (n : ℕ) (event : Event) (
           unfolding amounts
           to_write trace loan w = to_amount trace loan (value_goes d₃ (λ fuel. writes code ctx who n event fuel key_owner key_line) amount e₃ (does_as posts_then w))
 
-          -- the write, by the event's number as the code has it
-          module _ {r : Posted} {cells' : List ℤ} {sets' : Sets} {run' : Run} {number : ℕ} (en : number ≡ event_number event)
-              (p : (own : Label) → l₃ ≡ union l₂ own → (trace : List ℕ) (loan : ℕ) → run₃.used ≤ length trace
-              → Posts n l₂ who.user table k (record { val = cell number entry.amount; lab = own }) (before run₃ trace loan) r (store cells' sets' run' trace loan)) where
-            q : (trace : List ℕ) (loan : ℕ) → run.used ≤ length trace → Posts n l₂ who.user table k z (before run₃ trace loan) r (store cells' sets' run' trace loan)
-            q trace loan u = rw en at (p d₃.label (d₃.joined e₃) trace loan (omega (arith, used_is, u)))
+          -- the write on one trace, by the event's number as the code has it
+          module _ {given : List ℕ} {loan : ℕ} {r : Posted} {x' : Store} {number : ℕ} (en : number ≡ event_number event)
+              (p : (own : Label) → l₃ ≡ union l₂ own → Posts n l₂ who.user table k (record { val = cell number entry.amount; lab = own }) (before run₃ given loan) r x') where
+            once : Posts n l₂ who.user table k z (before run₃ given loan) r x'
+            once = rw en at (p d₃.label (d₃.joined e₃))
 
-            -- a trace that is full holds no more records
-            abbrev full : List ℕ
-            full = replicate run₃.used 0
+            -- it does the same on any
+            q : (trace : List ℕ) (loan : ℕ) → run.used ≤ length trace → Posts n l₂ who.user table k z (before run₃ trace loan) r (store x'.amounts x'.sets x'.run trace loan)
+            q trace loan u = on_any n l₂ who.user table k z once trace loan (omega (arith, used_is, u))
 
-            written : Posts n l₂ who.user table k z (before run₃ full 0) r (store cells' sets' run' full 0)
-            written = q full 0 (omega (arith, used_is, length-replicate {A = ℕ} run₃.used 0))
+            abbrev left : Leaves (before run₃ given loan) (once.does vars).records x'
+            left = (once.does vars).leaves
 
-            abbrev left : Leaves (before run₃ full 0) (written.does vars).records (store cells' sets' run' full 0)
-            left = (written.does vars).leaves
-
-            used_same : run'.used ≡ run.used
-            used_same = omega (arith, used_is, left.used_is, left.fits, length-replicate {A = ℕ} run₃.used 0)
+            used_same : x'.run.used ≡ run.used
+            used_same = write_uses_none n l₂ who.user table k z once vars ∙ used_is
 
             abbrev firing : ℕ → M (Unit {0})
             firing = Fires code l₂ who.above (event_number event) (key_place table k) k z
 
             -- a test fails
-            pub write_stops : r ≡ Err stopped → Writing (Err stopped) cells' sets' run' l₂ l₃
+            pub write_stops : r ≡ Err stopped → Writing (Err stopped) x'.amounts x'.sets x'.run l₂ l₃
             unfolding posted_end
             write_stops e = record {
               own = d₃.label;
@@ -226,14 +223,14 @@ module _ (code : List ℕ) (ctx : Label) (who : Who) (n : ℕ) (event : Event) (
                 none f = let z : ◌≡◌ {A = ℕ} 0 1 = cc in omega arith
 
             -- the cell is written
-            pub write_goes : {place : ℕ} → r ≡ Ok place → Writing (Ok (record { place = place; entry = entry })) cells' sets' run' l₂ l₃
+            pub write_goes : {place : ℕ} → r ≡ Ok place → Writing (Ok (record { place = place; entry = entry })) x'.amounts x'.sets x'.run l₂ l₃
             unfolding posted_end
             write_goes {place} e = record {
               own = d₃.label;
               stops = λ f. absurd (none f);
               goes = λ y f trace loan u w. to_write trace loan (then_goes ((q trace loan u).does vars) (rw e) (rw ((q trace loan u).place_is place e) at (rw (← same f) at w)));
               label_is = λ y f. d₃.joined e₃;
-              inside = λ y f. rw (← same f) (written.place_inside place e);
+              inside = λ y f. rw (← same f) (once.place_inside place e);
               within = omega (arith, d₁.within, d₂.within, d₃.within, left.within);
               used_same = used_same;
               public_same = left.public_same;

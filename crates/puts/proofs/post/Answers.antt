@@ -9,6 +9,7 @@ use Rattle.machine.specs.Script.{script_of}
 use Rattle.machine.specs.Writes.{key_of}
 use Rattle.machine.proofs.Events.{numbered}
 use Rattle.machine.proofs.Nodes.{read}
+use Rattle.postings.proofs.Traces.{full, full_fits}
 use Rattle.puts.proofs.Steps.{post_fields, named, owner_stops, line_stops, amount_stops, write_stops, write_goes}
 use Rattle.puts.proofs.post.Goals as goal
 
@@ -68,7 +69,8 @@ returns-in_err-place-clause-writes c =
     (write_stops script.bytes.now a.env.now.ctx a.env.now.who a.n a.event c.requires.1 _ a.amounts.now a.sets.now a.run.now
     (named script.bytes.now (c.u16_at-a.ensures.0 ∙ r.a) c.eval.ensures) c.in-Ok.is
     (named script.bytes.now (c.u16_at-b.ensures.0 ∙ r.b) c.eval-2.ensures) c.in-Ok-eval.is c.new_amount.ensures c.in-Ok-new_amount.is (c.byte_at-table.ensures.0 ∙ r.p) _
-    (λ i. key_of (owner i) (line i)) amount (numbered a.event) c.post.ensures.posts c.in_err-place.was)
+    (λ i. key_of (owner i) (line i)) amount (numbered a.event)
+    (λ own o. c.post.ensures.posts own o (full _) 0 (full_fits _)) c.in_err-place.was)
 
 pub returns-clause-writes : goal.returns-clause-writes
 returns-clause-writes c =
@@ -81,4 +83,5 @@ returns-clause-writes c =
     write_goes script.bytes.now a.env.now.ctx a.env.now.who a.n a.event c.requires.1 _ a.amounts.now a.sets.now a.run.now
     (named script.bytes.now (c.u16_at-a.ensures.0 ∙ r.a) c.eval.ensures) c.in-Ok.is
     (named script.bytes.now (c.u16_at-b.ensures.0 ∙ r.b) c.eval-2.ensures) c.in-Ok-eval.is c.new_amount.ensures c.in-Ok-new_amount.is (c.byte_at-table.ensures.0 ∙ r.p) _
-    (λ i. key_of (owner i) (line i)) amount (numbered a.event) c.post.ensures.posts c.in_ok-place.was
+    (λ i. key_of (owner i) (line i)) amount (numbered a.event)
+    (λ own o. c.post.ensures.posts own o (full _) 0 (full_fits _)) c.in_ok-place.was
