@@ -18,7 +18,8 @@ use Rattle.machine.specs.Promises.{Outcome, ended, Does}
 use Rattle.machine.specs.Writes.{Posted, posted_end, Posts}
 use Rattle.machine.specs.declared.lent.Run.{Run}
 use Rattle.machine.specs.declared.lent.Sets.{Sets}
-use Rattle.machine.proofs.Runs.{next_look, guard_true, guard_false, need_holds, need_fails, quietly}
+use Rattle.machine.proofs.Runs.{guard_true, guard_false, need_holds, need_fails, quietly}
+use Rattle.postings.proofs.Postings.{keyed}
 
 -- a state with this room
 with_room : ℕ → State → State
@@ -93,11 +94,9 @@ module _ (n : ℕ) (ctx : Label) (user table : ℕ) (k : Key) (z : Lab Cell) whe
       may : Test
       may = plainly (has (s.rights.write user) place)
 
-      keyed : in_table k ≡ true → (s : State) → writing s ≡ (need (plainly (has (s.rights.write user) place)) 24 n >> written) s
-      keyed e s = need_holds (plainly (in_table k)) 23 n _ s e ∙ next_look (λ s. s.rights) _ s
-
       go : (b : Bool) → in_table k ≡ b → Unrecorded writing room s
-      go true e = keyed e (with_room room s) ∙ need_unrecorded may 24 n written room s (written_unrecorded room s) ∙ sym (ap (unrecorded room) (keyed e s))
+      go true e = keyed n ctx user table k z e (with_room room s) ∙ need_unrecorded may 24 n written room s (written_unrecorded room s)
+          ∙ sym (ap (unrecorded room) (keyed n ctx user table k z e s))
       go false e = need_fails (plainly (in_table k)) 23 n _ (with_room room s) e ∙ sym (ap (unrecorded room) (need_fails (plainly (in_table k)) 23 n _ s e))
 
   module _ {x x' : Store} {r : Posted} (p : Posts n ctx user table k z x r x') where
